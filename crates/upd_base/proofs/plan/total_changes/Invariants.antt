@@ -1,0 +1,7 @@
+use Rattle.std.proofs.Common.{◌≡◌, ◌^◌, ◌-◌, min, take}
+use Rattle.std.specs.List.{sum_by}
+use Rattle.upd_base.specs.Plan.{changes_in}
+use Rattle.upd_base.proofs.plan.total_changes.Given as goal
+
+abbrev pub invariant-loop-thread : goal.invariant-loop-thread
+invariant-loop-thread l = l.count ≡ min (sum_by (λ t. changes_in t.items) (take l.thread-index l.threads)) (2 ^ 64 - 1)

@@ -1,0 +1,248 @@
+ghost use Rattle.std.specs.Prelude.{◌≡◌, ◌↔◌, IfOk, IsTrue};
+ghost use Rattle.upd_base.specs.Body.{body_fits, is_body};
+
+use crate::batch::Batch;
+use crate::item::Item;
+use crate::no_memory::NoMemory;
+use std::alloc::Global;
+
+/// What modules of one version send to each other. Places, instances, rounds and the stamps of
+/// requests and acknowledgements count from 1; the stamp of an estimate may be 0.
+#[derive(Debug, Drop, PartialEq, Eq)]
+pub enum Body {
+    /// Fixed sequencer: order this item.
+    Ask {
+        item: Item,
+    },
+    /// Fixed sequencer: this item has this place.
+    Ord {
+        place: u64,
+        item: Item,
+    },
+    /// Timestamps: a request with its sender's clock.
+    Req {
+        stamp: u64,
+        item: Item,
+    },
+    /// Timestamps: an acknowledgement with its sender's clock.
+    Ack {
+        stamp: u64,
+    },
+    /// Consensus: reliable broadcast of an item.
+    Rb {
+        item: Item,
+    },
+    /// Consensus: an estimate with the round in which it was last adopted.
+    Est {
+        instance: u64,
+        round: u64,
+        stamp: u64,
+        batch: Batch,
+    },
+    /// Consensus: the coordinator's proposal.
+    Prop {
+        instance: u64,
+        round: u64,
+        batch: Batch,
+    },
+    /// Consensus: an answer to a proposal.
+    Reply {
+        instance: u64,
+        round: u64,
+        yes: bool,
+    },
+    /// Consensus: the round is over without a decision.
+    Next {
+        instance: u64,
+        round: u64,
+    },
+    /// Consensus: reliable broadcast of a decision.
+    Decide {
+        instance: u64,
+        batch: Batch,
+    },
+}
+
+impl Body {
+    /// The same body.
+    pub fn copy(&self, alloc: Global) -> Result<Body, NoMemory>
+        ensures { IfOk result (λ body. body ≡ self.now) }
+    {
+        match self {
+            Body::Ask { item } => Ok(Body::Ask { item: item.copy()? }),
+            Body::Ord { place, item } => Ok(Body::Ord {
+                place: *place,
+                item: item.copy()?,
+            }),
+            Body::Req { stamp, item } => Ok(Body::Req {
+                stamp: *stamp,
+                item: item.copy()?,
+            }),
+            Body::Ack { stamp } => Ok(Body::Ack { stamp: *stamp }),
+            Body::Rb { item } => Ok(Body::Rb { item: item.copy()? }),
+            Body::Est {
+                instance,
+                round,
+                stamp,
+                batch,
+            } => Ok(Body::Est {
+                instance: *instance,
+                round: *round,
+                stamp: *stamp,
+                batch: batch.copy(alloc)?,
+            }),
+            Body::Prop {
+                instance,
+                round,
+                batch,
+            } => Ok(Body::Prop {
+                instance: *instance,
+                round: *round,
+                batch: batch.copy(alloc)?,
+            }),
+            Body::Reply {
+                instance,
+                round,
+                yes,
+            } => Ok(Body::Reply {
+                instance: *instance,
+                round: *round,
+                yes: *yes,
+            }),
+            Body::Next { instance, round } => Ok(Body::Next {
+                instance: *instance,
+                round: *round,
+            }),
+            Body::Decide { instance, batch } => Ok(Body::Decide {
+                instance: *instance,
+                batch: batch.copy(alloc)?,
+            }),
+        }
+    }
+
+    /// Whether the two are one body to the last byte.
+    pub fn is_same(&self, other: &Body) -> bool
+        ensures { IsTrue result ↔ (self.now ≡ other.now) }
+    {
+        match (self, other) {
+            (Body::Ask { item }, Body::Ask { item: other }) => item.is_same(other),
+            (
+                Body::Ord { place, item },
+                Body::Ord {
+                    place: at,
+                    item: other,
+                },
+            ) => place == at && item.is_same(other),
+            (
+                Body::Req { stamp, item },
+                Body::Req {
+                    stamp: at,
+                    item: other,
+                },
+            ) => stamp == at && item.is_same(other),
+            (Body::Ack { stamp }, Body::Ack { stamp: at }) => stamp == at,
+            (Body::Rb { item }, Body::Rb { item: other }) => item.is_same(other),
+            (
+                Body::Est {
+                    instance,
+                    round,
+                    stamp,
+                    batch,
+                },
+                Body::Est {
+                    instance: other_instance,
+                    round: other_round,
+                    stamp: other_stamp,
+                    batch: other,
+                },
+            ) => instance == other_instance
+                && round == other_round
+                && stamp == other_stamp
+                && batch.is_same(other),
+            (
+                Body::Prop {
+                    instance,
+                    round,
+                    batch,
+                },
+                Body::Prop {
+                    instance: other_instance,
+                    round: other_round,
+                    batch: other,
+                },
+            ) => instance == other_instance && round == other_round && batch.is_same(other),
+            (
+                Body::Reply {
+                    instance,
+                    round,
+                    yes,
+                },
+                Body::Reply {
+                    instance: other_instance,
+                    round: other_round,
+                    yes: other,
+                },
+            ) => instance == other_instance && round == other_round && yes == other,
+            (
+                Body::Next { instance, round },
+                Body::Next {
+                    instance: other_instance,
+                    round: other_round,
+                },
+            ) => instance == other_instance && round == other_round,
+            (
+                Body::Decide { instance, batch },
+                Body::Decide {
+                    instance: other_instance,
+                    batch: other,
+                },
+            ) => instance == other_instance && batch.is_same(other),
+            _ => false,
+        }
+    }
+
+    /// Whether each member that it names is below n.
+    pub fn fits(&self, n: u8) -> bool
+        ensures { result ≡ body_fits n self.now }
+    {
+        match self {
+            Body::Ask { item }
+            | Body::Ord { item, .. }
+            | Body::Req { item, .. }
+            | Body::Rb { item } => item.fits(n),
+            Body::Est { batch, .. } | Body::Prop { batch, .. } | Body::Decide { batch, .. } => {
+                batch.fits(n)
+            }
+            Body::Ack { .. } | Body::Reply { .. } | Body::Next { .. } => true,
+        }
+    }
+
+    /// Whether its place, instance, round, and the stamp of a request or an acknowledgement, is at
+    /// least 1.
+    pub fn counts_from_one(&self) -> bool
+        ensures { result ≡ is_body self.now }
+    {
+        match self {
+            Body::Ask { .. } | Body::Rb { .. } => true,
+            Body::Ord { place, .. } => *place >= 1,
+            Body::Req { stamp, .. } | Body::Ack { stamp } => *stamp >= 1,
+            Body::Est {
+                instance,
+                round,
+                ..
+            }
+            | Body::Prop {
+                instance,
+                round,
+                ..
+            }
+            | Body::Reply {
+                instance,
+                round,
+                ..
+            }
+            | Body::Next { instance, round } => *instance >= 1 && *round >= 1,
+            Body::Decide { instance, .. } => *instance >= 1,
+        }
+    }
+}

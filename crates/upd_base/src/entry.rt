@@ -1,0 +1,8 @@
+use crate::item::Item;
+
+/// One item of a log, with the version that ordered it.
+#[derive(Debug, Drop, PartialEq, Eq)]
+pub struct Entry {
+    pub version: u16,
+    pub item: Item,
+}

@@ -1,0 +1,24 @@
+use crate::answer::Answer;
+use crate::member::MemberId;
+
+/// One atomic step of a group: one call, one receipt or one release, with all that it changes at one
+/// member and all frames that this member sends.
+#[derive(Clone, Copy, Debug, PartialEq, Eq)]
+pub enum Event {
+    /// The planned call of this thread and index, at this member, with this answer.
+    Call {
+        thread: u8,
+        index: u16,
+        member: MemberId,
+        answer: Answer,
+    },
+    /// The first frame of this link is received.
+    Receive {
+        from: MemberId,
+        to: MemberId,
+    },
+    /// The first held frame whose version the member has reached is processed.
+    Release {
+        at: MemberId,
+    },
+}
