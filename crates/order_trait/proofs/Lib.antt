@@ -1,0 +1,4 @@
+pub mod Broadcasts
+pub mod Runs
+pub mod Sends
+pub mod Sums
