@@ -1,0 +1,5 @@
+pub mod Clocks
+pub mod Heard
+pub mod Laws
+pub mod Sorted
+pub mod Stamps
