@@ -1,0 +1,13 @@
+pub mod Group
+pub mod Version
+pub mod Part
+pub mod Held
+pub mod Answer
+pub mod Turn
+pub mod Run
+pub mod Projection
+pub mod Link
+pub mod Ordered
+pub mod Settled
+pub mod Growing
+pub mod Laws
