@@ -1,0 +1,4 @@
+pub mod Ordered
+pub mod Switches
+pub mod Limit
+mod Whole
