@@ -1,0 +1,12 @@
+mod Laws
+mod TwoMessages
+mod OneMember
+mod NoCalls
+mod ChangeBetweenMessages
+mod ChangeToTheSameKind
+mod OvertakenChange
+mod EarlyFrame
+mod CrashedSequencer
+mod CrashedSender
+mod FullMember
+mod Refused

@@ -1,0 +1,14 @@
+pub mod Kinds
+pub mod Texts
+pub mod Outcome
+pub mod TwoMessages
+pub mod OneMember
+pub mod NoCalls
+pub mod ChangeBetweenMessages
+pub mod ChangeToTheSameKind
+pub mod OvertakenChange
+pub mod EarlyFrame
+pub mod CrashedSequencer
+pub mod CrashedSender
+pub mod FullMember
+pub mod OneTurn
