@@ -1,0 +1,2 @@
+pub mod Report
+pub use Rattle.upd_base.specs.Plan
