@@ -1,0 +1,6 @@
+pub mod Lists
+pub mod Moves
+pub mod Passes
+pub mod Sums
+pub mod Tallies
+pub mod Turns

@@ -1,0 +1,10 @@
+pub mod Lists
+pub mod Pass
+pub mod Places
+pub mod Rule
+pub mod Seat
+pub mod Stage
+pub mod Steps
+pub mod TurnLock
+pub mod Turns
+pub mod View
