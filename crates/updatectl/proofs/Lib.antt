@@ -1,0 +1,4 @@
+pub mod Read
+pub mod Seeds
+pub mod Records
+pub mod Sends

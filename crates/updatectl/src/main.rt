@@ -1,0 +1,48 @@
+//! Reads a scenario, runs the group that it describes, and reports what each member delivered.
+#![tactic(auto)]
+
+mod group;
+mod journal;
+mod outcome;
+mod record;
+mod schedule;
+mod std_edge;
+mod texts;
+mod top;
+mod words;
+
+use std::env;
+use std::io::{Error, ErrorKind};
+use std::process::ExitCode;
+use std_edge::{StdSink, StdSource};
+use top::plain;
+
+/// The words without the program's name. Arguments that are no text count as one empty word, which is no
+/// command.
+fn words_of(rt: &HostRuntime) -> Result<Vec<String>, Error> {
+    let alloc = rt.alloc();
+    let mut words = Vec::new(alloc);
+    match env::args(rt) {
+        Ok(args) => {
+            for word in args.skip(1) {
+                words.push(word)?;
+            }
+        }
+        Err(error) if error.kind() == ErrorKind::OutOfMemory => return Err(error),
+        Err(_) => words.push(String::new(alloc))?,
+    }
+    Ok(words)
+}
+
+fn main(rt: HostRuntime) -> ExitCode {
+    let Ok(words) = words_of(&rt) else {
+        return ExitCode::from(outcome::Status::NoMemory.code());
+    };
+    let mut source = StdSource::new(rt.stdin());
+    let mut sink = StdSink::new(rt.stdout());
+    let outcome = plain(rt.alloc(), words.as_slice(), &mut source, &mut sink);
+    ExitCode::from(outcome.status.code())
+}
+
+#[cfg(test)]
+mod tests;

@@ -1,0 +1,50 @@
+use crate::journal::Journal;
+use scenario::ScenarioFault;
+
+/// How the program ended.
+#[derive(Drop)]
+pub enum Status {
+    /// The run is settled and its text was written whole.
+    Done,
+    /// The words are no command.
+    Words,
+    /// The source failed while it was read.
+    SourceFailed,
+    /// The sink failed while the report was written.
+    SinkFailed,
+    /// The scenario is refused.
+    Scenario(ScenarioFault),
+    /// The run made as many events as the plan's bound and is not settled.
+    TurnsSpent,
+    /// A request for memory was refused.
+    NoMemory,
+}
+
+/// What the program did: how it ended, the journal of the run that it made, and its lines, of which
+/// there are none so far.
+#[derive(Drop)]
+pub struct Outcome<L> {
+    pub status: Status,
+    pub journal: Option<Journal>,
+    pub lines: Vec<Option<L>>,
+}
+
+impl Status {
+    ghost use Rattle.std.specs.Prelude.{◌≡◌};
+    ghost use Rattle.updatectl.specs.Texts.{code_of};
+
+    /// The program's exit status.
+    pub fn code(&self) -> u8
+        ensures { result ≡ code_of self.now }
+    {
+        match self {
+            Status::Done => 0,
+            Status::Words => 2,
+            Status::SourceFailed => 3,
+            Status::SinkFailed => 4,
+            Status::Scenario(_) => 5,
+            Status::TurnsSpent => 7,
+            Status::NoMemory => 9,
+        }
+    }
+}

@@ -1,0 +1,93 @@
+use super::outcome::Status;
+use super::std_edge::{StdSink, StdSource};
+use super::top::plain;
+use std::alloc::Global;
+use std::test::*;
+use upd_base::{EdgeFault, Sink, Source};
+use upd_fakes::{MemSink, MemSource, SureSink, SureSource};
+
+const ROW: &str =
+    "{\"members\":3,\"first\":\"sequencer 0\",\"threads\":[[{\"at\":1,\"op\":\"send\",\"text\":\"a\"}]]}";
+
+const SHORT: &str = "run: 3 members, 5 events, 1 of 1 calls
+answers: 1 accepted, 0 done, 0 full, 0 crashed
+member 0: version 0, sequencer 0, up, 1 delivered
+member 1: version 0, sequencer 0, up, 1 delivered
+member 2: version 0, sequencer 0, up, 1 delivered
+end: settled
+";
+
+// The exit status and what the sink got, for words, an input and the calls that fail.
+fn run(
+    alloc: Global,
+    words: &[&str],
+    input: &str,
+    reads: &[u64],
+    writes: &[u64],
+) -> Result<(u8, String), Fail> {
+    let mut given = Vec::new(alloc);
+    for word in words {
+        given.push(String::from_str(alloc, word)?)?;
+    }
+    let bytes = Vec::from_slice(alloc, input.as_bytes())?;
+    let mut source = MemSource::new(bytes, 7, Vec::from_slice(alloc, reads)?);
+    let mut sink = MemSink::new(alloc, 5, Vec::from_slice(alloc, writes)?);
+    let outcome = plain(alloc, given.as_slice(), &mut source, &mut sink);
+    let text = String::from_utf8_lossy(alloc, sink.bytes())?;
+    Ok((outcome.status.code(), text))
+}
+
+#[test]
+fn statuses(rt: HostRuntime) -> Result<(), Fail> {
+    let alloc = rt.alloc();
+    let lamport = "{\"members\":1,\"first\":\"lamport\",\"threads\":[[]]}";
+    let (status, text) = run(alloc, &["rehearse", "7", "short"], ROW, &[], &[])?;
+    assert_eq!(rt; (status, text.as_str()), (0, SHORT));
+    let (status, text) = run(alloc, &["rehearse", "short"], ROW, &[2], &[])?;
+    assert_eq!(rt; (status, text.as_str()), (3, "source failed\n"));
+    let (status, text) = run(alloc, &["rehearse", "short"], ROW, &[], &[3])?;
+    assert_eq!(rt; (status, text.as_str()), (4, "run: 3 mem"));
+    let (status, text) = run(alloc, &["rehearse"], "{\"members\":8}", &[], &[2])?;
+    assert_eq!(rt; (status, text.as_str()), (5, "scena"));
+    let (status, text) = run(alloc, &["rehearse"], lamport, &[], &[])?;
+    assert_eq!(rt;
+        (status, text.as_str()),
+        (5, "scenario refused at /: not built\n")
+    );
+    Ok(())
+}
+
+#[test]
+fn journals(rt: HostRuntime) -> Result<(), Fail> {
+    let alloc = rt.alloc();
+    let words = vec![in alloc; String::from_str(alloc, "rehearse")?]?;
+    let mut source = SureSource::new(Vec::from_slice(alloc, ROW.as_bytes())?);
+    let mut sink = MemSink::new(alloc, 5, vec![in alloc; 1u64]?);
+    let outcome = plain(alloc, words.as_slice(), &mut source, &mut sink);
+    assert!(rt; matches!(&outcome.status, Status::SinkFailed));
+    let journal = outcome.journal.ok_or("no journal")?;
+    assert_eq!(rt; journal.events().len(), 5);
+    assert_eq!(rt; journal.plan().members(), 3);
+    let mut sink = SureSink::new(alloc);
+    let mut source = SureSource::new(Vec::from_slice(alloc, ROW.as_bytes())?);
+    let outcome = plain(alloc, words.as_slice(), &mut source, &mut sink);
+    assert_eq!(rt; outcome.status.code(), 0);
+    assert!(rt; sink.bytes().ends_with(b"end: settled\n"));
+    Ok(())
+}
+
+#[test]
+fn std_edges(rt: HostRuntime) -> Result<(), Fail> {
+    let alloc = rt.alloc();
+    let mut source = StdSource::new(b"ab".as_slice());
+    let mut buffer = [0u8; 4];
+    assert_eq!(rt; source.read(&mut buffer), Ok(2));
+    assert_eq!(rt; source.read(&mut buffer), Ok(0));
+    let mut sink = StdSink::new(Vec::new(alloc));
+    assert_eq!(rt; sink.write(b"ab"), Ok(2));
+    let mut room = [0u8; 1];
+    let mut full = StdSink::new(room.as_mut_slice());
+    assert_eq!(rt; full.write(b"ab"), Ok(1));
+    assert_eq!(rt; full.write(b"b"), Err(EdgeFault::Failed));
+    Ok(())
+}
