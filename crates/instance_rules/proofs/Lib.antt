@@ -1,0 +1,4 @@
+pub mod Votes
+pub mod Places
+pub mod Said
+pub mod Agree
