@@ -1,0 +1,17 @@
+use Rattle.std.proofs.Common.{◌≡◌, None, sym, ◌∙◌, subst}
+use Rattle.std.specs.Ordering.{nat_cmp}
+use Rattle.std.specs.BTreeMap.{get}
+use Rattle.ct_consensus.specs.Ballot.{IsCounted, IsTallied, IsKept}
+use Rattle.ct_consensus.proofs.running.take_ballot.Goals as goal
+
+pub returns-in-None-clause-kept : goal.returns-in-None-clause-kept
+returns-in-None-clause-kept c = λ n past kept.
+    let none : get nat_cmp c.args.ballots.now c.args.round ≡ None = sym c.remove.ensures.value ∙ c.in-None.is in
+    let empty : IsKept n c.args.round past None = subst (IsKept n c.args.round past) none kept in (
+      subst (λ v. IsCounted n v c.new.result.proposal) (sym empty.0) (c.new.ensures.counted n),
+      subst (λ v. IsTallied n v c.new.result.replies) (sym empty.1) (c.new.ensures.tallied n),
+      c.new.ensures.closes,
+    )
+
+pub returns-in-None-clause-fits : goal.returns-in-None-clause-fits
+returns-in-None-clause-fits c = λ n fits. c.new.ensures.fits n

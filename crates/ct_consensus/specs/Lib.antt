@@ -1,0 +1,6 @@
+pub mod Ballot
+pub mod Moves
+pub mod Fit
+pub mod Stance
+pub mod Stands
+pub mod Instance

@@ -1,0 +1,109 @@
+ghost use Rattle.std.specs.Prelude.{ℕ, ◌≡◌, ◌<◌, ◌≤◌, true, IfOk};
+ghost use Rattle.ct_consensus.specs.Ballot.{all_fit};
+ghost use Rattle.ct_consensus.specs.Moves.{TrustsItself};
+ghost use Rattle.ct_consensus.specs.Instance.{members_of, me_of};
+
+use crate::Instance;
+use order_trait::Outbox;
+use std::alloc::Global;
+use std::test::*;
+use upd_base::{Batch, Body, Item, Kind, MemberId};
+
+fn member(id: u8) -> Result<MemberId, Fail>
+    ensures { IfOk result (λ m. m ≡ id) }
+{
+    match MemberId::new(id) {
+        Some(member) => Ok(member),
+        None => Err("a member")?,
+    }
+}
+
+fn batch(alloc: Global, n: u8) -> Result<Batch, Fail>
+    ensures { IfOk result (λ b. all_fit n b ≡ true) }
+{
+    let mut items = Vec::new(alloc);
+    items.push(Item::Switch {
+        origin: member(0)?,
+        number: 4,
+        kind: Kind::Lamport,
+    })?;
+    let Some(batch) = Batch::new(items) else {
+        return Err("a batch")?;
+    };
+    if !batch.fits(n) {
+        return Err("fits")?;
+    }
+    Ok(batch)
+}
+
+fn estimate(alloc: Global, round: u64) -> Result<Body, Fail> {
+    Ok(Body::Est {
+        instance: 1,
+        round,
+        stamp: 0,
+        batch: batch(alloc, 7)?,
+    })
+}
+
+fn reply(round: u64, agree: bool) -> Body {
+    Body::Reply {
+        instance: 1,
+        round,
+        yes: agree,
+    }
+}
+
+/// Instance 1 of n members at a member, started with these suspicions.
+fn started(
+    alloc: Global,
+    n: u8,
+    me: u8,
+    row: &[bool; 7],
+    out: &mut Outbox,
+) -> Result<Instance, Fail>
+    requires few { n ≤ 7 }
+    requires seated { me < n }
+    requires not_me { TrustsItself row.now me }
+    ensures members { IfOk result (λ i. members_of i ≡ n) }
+    ensures me { IfOk result (λ i. me_of i ≡ me) }
+{
+    let seat = member(me)?;
+    let Ok(mut instance) = Instance::new(alloc, 1, n, seat) else {
+        return Err("memory")?;
+    };
+    if instance.start(alloc, batch(alloc, n)?, row, out).is_err() {
+        return Err("memory")?;
+    }
+    Ok(instance)
+}
+
+#[test]
+fn one_suspected(rt: HostRuntime) -> Result<(), Fail> {
+    let alloc = rt.alloc();
+    let mut out = Outbox::new(alloc);
+    let row = [true, false, false, false, false, false, false];
+    let instance = started(alloc, 3, 2, &row, &mut out)?;
+    assert_eq!(rt; out.drain_first(), Some((member(0)?, estimate(alloc, 1)?)));
+    assert_eq!(rt; out.drain_first(), Some((member(0)?, reply(1, false))));
+    assert_eq!(rt; out.drain_first(), Some((member(1)?, estimate(alloc, 2)?)));
+    assert!(rt; out.drain_first().is_none());
+    assert_eq!(rt; instance.round(), 2);
+    assert!(rt; instance.decided().is_none());
+    Ok(())
+}
+
+#[test]
+fn two_suspected(rt: HostRuntime) -> Result<(), Fail> {
+    let alloc = rt.alloc();
+    let mut out = Outbox::new(alloc);
+    let row = [true, true, false, false, false, false, false];
+    let instance = started(alloc, 3, 2, &row, &mut out)?;
+    for _ in 0..3 {
+        let _sent = out.drain_first();
+    }
+    assert_eq!(rt; out.drain_first(), Some((member(1)?, reply(2, false))));
+    assert_eq!(rt; out.drain_first(), Some((member(2)?, estimate(alloc, 3)?)));
+    assert!(rt; out.drain_first().is_none());
+    assert_eq!(rt; instance.round(), 3);
+    Ok(())
+}
