@@ -6,3 +6,4 @@ pub mod Inputs
 pub mod Leading
 pub mod Decided
 pub mod Longer
+pub mod Closing

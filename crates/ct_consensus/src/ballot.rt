@@ -5,7 +5,10 @@ ghost use Rattle.instance_rules.specs.Say as say;
 ghost use Rattle.instance_rules.specs.Says as leading;
 ghost use Rattle.instance_rules.specs.Ballot as rules;
 ghost use Rattle.instance_rules.specs.Ballot.{is_from, vote, best_of, quorum, all_yes};
-ghost use Rattle.ct_consensus.specs.Ballot.{all_fit, IsCounted, IsTallied, ClosesWith, IsPending, ProposalFits, concludes};
+ghost use Rattle.std.specs.Global.{Vec};
+ghost use Rattle.std.specs.Prelude.{Option};
+ghost use Rattle.instance_rules.specs.Say.{Turns};
+ghost use Rattle.ct_consensus.specs.Ballot.{all_fit, IsCounted, IsTallied, ClosesWith, IsPending, IsKept, ProposalFits, concludes};
 
 use crate::seat::Seat;
 use instance_rules::Estimate;
@@ -140,7 +143,63 @@ fn tally(
     Ok(Some(all_agree(votes.as_slice())))
 }
 
+/// The same estimates.
+fn copy_estimates(
+    alloc: Global,
+    votes: &[(MemberId, Estimate)],
+) -> Result<Vec<(MemberId, Estimate)>, NoMemory>
+    ensures { IfOk result (λ copies. copies.items ≡ votes.now) }
+{
+    let mut copies = Vec::new(alloc);
+    for vote in votes {
+        copies.push((vote.0, vote.1.copy(alloc)?))?;
+    }
+    Ok(copies)
+}
+
+/// The same replies.
+fn copy_replies(
+    alloc: Global,
+    replies: &Option<Vec<(MemberId, bool)>>,
+) -> Result<Option<Vec<(MemberId, bool)>>, NoMemory>
+    ensures tallied { IfOk result (λ copies. (n : ℕ) (votes : List (ℕ × Bool)) → IsTallied n votes replies.now → IsTallied n votes copies) }
+    ensures none { IfOk result (λ copies. replies.now ≡ None → copies ≡ None) }
+{
+    match replies {
+        Some(votes) => Ok(Some(Vec::from_slice(alloc, votes.as_slice())?)),
+        None => Ok(None),
+    }
+}
+
+impl Proposal {
+    /// It is as far as this one, with the same estimates or the same batch.
+    pub fn copy(&self, alloc: Global) -> Result<Proposal, NoMemory>
+        ensures counted { IfOk result (λ copy. (n : ℕ) (votes : List (ℕ × Estimate)) → IsCounted n votes self.now → IsCounted n votes copy) }
+        ensures closes { IfOk result (λ copy. (replies : Option (Vec (ℕ × Bool))) → ClosesWith replies self.now → ClosesWith replies copy) }
+        ensures fits { IfOk result (λ copy. (n : ℕ) → ProposalFits n self.now → ProposalFits n copy) }
+    {
+        match self {
+            Proposal::Awaited(votes) => {
+                Ok(Proposal::Awaited(copy_estimates(alloc, votes.as_slice())?))
+            }
+            Proposal::Made(batch) => Ok(Proposal::Made(batch.copy(alloc)?)),
+            Proposal::Over => Ok(Proposal::Over),
+        }
+    }
+}
+
 impl Ballot {
+    /// What is kept of the same votes.
+    pub fn copy(&self, alloc: Global) -> Result<Ballot, NoMemory>
+        ensures kept { IfOk result (λ copy. (n r : ℕ) (past : Turns) → IsKept n r past (Some self.now) → IsKept n r past (Some copy)) }
+        ensures fits { IfOk result (λ copy. (n : ℕ) → ProposalFits n self.now.proposal → ProposalFits n copy.proposal) }
+    {
+        Ok(Ballot {
+            proposal: self.proposal.copy(alloc)?,
+            replies: copy_replies(alloc, &self.replies)?,
+        })
+    }
+
     /// Before any vote.
     pub fn new(alloc: Global) -> Ballot
         ensures counted { (n : ℕ) → IsCounted n [] result.proposal }

@@ -58,6 +58,23 @@ impl Instance {
         Ok(Instance { seat, state })
     }
 
+    /// An equal one: the same share of the same instance, which stands for every list for which this one
+    /// stands.
+    pub fn copy(&self, alloc: Global) -> Result<Instance, NoMemory>
+        ensures number { IfOk result (λ i. (number_of i) ≡ (number_of self.now)) }
+        ensures members { IfOk result (λ i. (members_of i) ≡ (members_of self.now)) }
+        ensures me { IfOk result (λ i. (me_of i) ≡ (me_of self.now)) }
+        ensures stands { IfOk result (λ i. (past : Turns) → StandsFor self.now past → StandsFor i past) }
+    {
+        let seat = Seat {
+            number: self.seat.number,
+            members: self.seat.members,
+            me: self.seat.me,
+        };
+        let state = state::copy(&self.state, alloc)?;
+        Ok(Instance { seat, state })
+    }
+
     /// The member begins with a batch of items that name only its members. Where it has a round already,
     /// or has decided, nothing changes.
     pub fn start(

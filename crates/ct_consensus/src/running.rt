@@ -1,6 +1,6 @@
 ghost use Rattle.std.specs.Prelude.{ℕ, Bool, ◌≡◌, ◌≢◌, ◌≤◌, ◌∷◌, ◌++◌, ◌||◌, [], true, None, Some, OnOk, IfOk, IfSome};
 ghost use Rattle.std.specs.Ordering.{nat_cmp};
-ghost use Rattle.std.specs.BTreeMap.{get};
+ghost use Rattle.std.specs.BTreeMap.{get, insert_entry};
 ghost use Rattle.fifo_net.specs.Net.{Called, Took};
 ghost use Rattle.upd_base.specs.Body.{BodyFits, is_body};
 ghost use Rattle.order_trait.specs.Outbox.{Grows, SendFits};
@@ -56,11 +56,37 @@ fn put_ballot(
     ballot: Ballot,
 ) -> Result<(), NoMemory>
     ensures here { OnOk result (get nat_cmp ballots.new round ≡ Some ballot) }
+    ensures entries { OnOk result (ballots.new.entries ≡ insert_entry nat_cmp ballots.old.entries round ballot) }
     ensures others { OnOk result ((r : ℕ) → r ≢ round → get nat_cmp ballots.new r ≡ get nat_cmp ballots.old r) }
     ensures fits { (n : ℕ) → BallotsFit n ballots.old → ProposalFits n ballot.proposal → BallotsFit n ballots.new }
 {
     ballots.insert(round, ballot)?;
     Ok(())
+}
+
+/// What is kept of the same rounds.
+fn copy_ballots(
+    alloc: Global,
+    ballots: &BTreeMap<u64, Ballot>,
+) -> Result<BTreeMap<u64, Ballot>, NoMemory>
+    ensures kept { IfOk result (λ copies. (n r : ℕ) (past : Turns) → IsKept n r past (get nat_cmp ballots.now r) → IsKept n r past (get nat_cmp copies r)) }
+    ensures fits { IfOk result (λ copies. (n : ℕ) → BallotsFit n ballots.now → BallotsFit n copies) }
+{
+    let mut copies = BTreeMap::new(alloc);
+    for (round, ballot) in ballots.iter() {
+        put_ballot(&mut copies, *round, ballot.copy(alloc)?)?;
+    }
+    Ok(copies)
+}
+
+/// The same place, where there is one.
+fn copy_place(alloc: Global, place: &Option<Place>) -> Result<Option<Place>, NoMemory>
+    ensures { IfOk result (λ copy. copy ≡ place.now) }
+{
+    match place {
+        Some(place) => Ok(Some(place.copy(alloc)?)),
+        None => Ok(None),
+    }
 }
 
 /// Counts a member's estimate for a round; gives what is to be proposed.
@@ -195,6 +221,18 @@ impl Running {
             ballots: BTreeMap::new(alloc),
             led: false,
         }
+    }
+
+    /// It stands for every list for which this one stands.
+    pub fn copy(&self, alloc: Global) -> Result<Running, NoMemory>
+        ensures stands { IfOk result (λ copy. (n me : ℕ) (past : Turns) → IsRunning n me self.now past → IsRunning n me copy past) }
+        ensures fits { IfOk result (λ copy. (n : ℕ) → RunningFits n self.now → RunningFits n copy) }
+    {
+        Ok(Running {
+            place: copy_place(alloc, &self.place)?,
+            ballots: copy_ballots(alloc, &self.ballots)?,
+            led: self.led,
+        })
     }
 
     /// The member's round, 0 before it takes part.

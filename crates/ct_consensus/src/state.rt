@@ -1,4 +1,4 @@
-ghost use Rattle.std.specs.Prelude.{ℕ, ◌≡◌, ◌∷◌, [], true, Some, OnOk, if◌then◌else◌, option_copied};
+ghost use Rattle.std.specs.Prelude.{ℕ, ◌≡◌, ◌∷◌, [], true, Some, IfOk, OnOk, if◌then◌else◌, option_copied};
 ghost use Rattle.fifo_net.specs.Net.{Called, Took};
 ghost use Rattle.upd_base.specs.Body.{BodyFits};
 ghost use Rattle.order_trait.specs.Outbox.{Grows, SendFits};
@@ -30,6 +30,20 @@ pub struct Decision {
     /// The member's round when it decided.
     pub round: u64,
     pub batch: Batch,
+}
+
+/// It stands for every list for which this one stands.
+pub fn copy(state: &State, alloc: Global) -> Result<State, NoMemory>
+    ensures stands { IfOk result (λ copy. (n me : ℕ) (past : Turns) → IsState n me state.now past → IsState n me copy past) }
+    ensures fits { IfOk result (λ copy. (n : ℕ) → StateFits n state.now → StateFits n copy) }
+{
+    match state {
+        State::Undecided(running) => Ok(State::Undecided(running.copy(alloc)?)),
+        State::Decided(decision) => Ok(State::Decided(Decision {
+            round: decision.round,
+            batch: decision.batch.copy(alloc)?,
+        })),
+    }
 }
 
 /// The member begins with a batch.
