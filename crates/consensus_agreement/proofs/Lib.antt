@@ -1,0 +1,3 @@
+pub mod Integrity
+pub mod Fresh
+pub mod Laws
