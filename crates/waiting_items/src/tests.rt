@@ -1,0 +1,62 @@
+ghost use Rattle.std.specs.Prelude.{◌≡◌, IfOk};
+ghost use Rattle.upd_base.specs.Item.{id_of};
+
+use crate::Waiting;
+use std::alloc::Global;
+use std::test::*;
+use upd_base::{Item, Kind, MemberId};
+
+fn item(origin: u8, number: u32) -> Result<Item, Fail>
+    ensures { IfOk result (λ item. id_of item ≡ (origin, number)) }
+{
+    match MemberId::new(origin) {
+        Some(origin) => Ok(Item::Switch {
+            origin,
+            number,
+            kind: Kind::Lamport,
+        }),
+        None => Err("a member")?,
+    }
+}
+
+fn fill(waiting: &mut Waiting) -> Result<(), Fail> {
+    if waiting.insert(item(1, 0)?).is_err() {
+        return Err("memory")?;
+    }
+    if waiting.insert(item(0, 7)?).is_err() {
+        return Err("memory")?;
+    }
+    Ok(())
+}
+
+fn first(alloc: Global, waiting: &Waiting) -> Result<Option<Item>, Fail> {
+    let Ok(Some(batch)) = waiting.first_batch(alloc) else {
+        return Ok(None);
+    };
+    match batch.items() {
+        [first, ..] => match first.copy() {
+            Ok(item) => Ok(Some(item)),
+            Err(_) => Err("memory")?,
+        },
+        [] => Ok(None),
+    }
+}
+
+#[test]
+fn by_origin_and_number(rt: HostRuntime) -> Result<(), Fail> {
+    let alloc = rt.alloc();
+    let mut waiting = Waiting::new(alloc);
+    assert!(rt; waiting.is_empty());
+    fill(&mut waiting)?;
+    let Ok(mut copy) = waiting.copy(alloc) else {
+        return Err("memory")?;
+    };
+    waiting.remove(&item(0, 7)?);
+    assert_eq!(rt; first(alloc, &waiting)?, Some(item(1, 0)?));
+    assert_eq!(rt; first(alloc, &copy)?, Some(item(0, 7)?));
+    copy.remove(&item(0, 7)?);
+    copy.remove(&item(1, 0)?);
+    assert_eq!(rt; first(alloc, &copy)?, None);
+    assert!(rt; copy.is_empty());
+    Ok(())
+}
