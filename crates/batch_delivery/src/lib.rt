@@ -1,0 +1,9 @@
+//! What waits, what is decided and what was delivered: batches in the order of their instances, each item
+//! once.
+#![tactic(auto)]
+
+mod delivery;
+#[cfg(test)]
+mod tests;
+
+pub use delivery::Delivery;
