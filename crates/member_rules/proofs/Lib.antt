@@ -1,0 +1,14 @@
+pub mod Alike
+pub mod Took
+pub mod Modules
+pub mod Turns
+pub mod Deliver
+pub mod Enter
+pub mod Process
+pub mod Switch
+pub mod Came
+pub mod Members
+pub mod Basics
+pub mod Frames
+pub mod Inputs
+pub mod Reading

@@ -1,0 +1,4 @@
+pub mod Kept
+pub mod Stands
+pub mod Acts
+pub mod Steps
