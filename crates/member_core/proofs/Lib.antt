@@ -1,0 +1,4 @@
+pub mod Fitting
+pub mod Told
+pub mod Outcomes
+pub mod Processing

@@ -1,0 +1,4 @@
+pub mod Member
+pub mod Input
+pub mod Prepared
+pub mod Foretold
