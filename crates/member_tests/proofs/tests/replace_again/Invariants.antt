@@ -1,0 +1,6 @@
+use Rattle.std.proofs.Common.{◌≡◌}
+use Rattle.member_core.specs.Member.{kept_by}
+use Rattle.member_tests.proofs.tests.replace_again.Given as goal
+
+abbrev pub invariant-loop-1 : goal.invariant-loop-1
+invariant-loop-1 l = (kept_by l.one).members ≡ 1

@@ -1,0 +1,246 @@
+ghost use Rattle.std.specs.Prelude.{true, ◌≡◌, ◌<◌, ◌≤◌, IfOk};
+ghost use Rattle.upd_base.specs.Kind.{KindFits};
+ghost use Rattle.member_core.specs.Member.{kept_by};
+
+use member_core::{Input, Member, Sent};
+use order_trait::Ordering;
+use sequencer_order::SequencerOrder;
+use std::alloc::Global;
+use std::test::*;
+use upd_base::{Answer, Body, Call, Frame, Kind, MemberId, Text};
+
+type One = Member<SequencerOrder>;
+
+fn member(id: u8) -> Result<MemberId, Fail>
+    ensures { IfOk result (λ m. m ≡ id) }
+{
+    match MemberId::new(id) {
+        Some(member) => Ok(member),
+        None => Err("a member")?,
+    }
+}
+
+/// Member 0 of a group of n, whose first kind is the sequencer 0.
+fn started(alloc: Global, n: u8) -> Result<One, Fail>
+    requires some { 1 ≤ n }
+    requires few { n ≤ 7 }
+    ensures { IfOk result (λ m. (kept_by m).members ≡ n) }
+{
+    let zero = member(0)?;
+    let first = Kind::Sequencer(zero);
+    if !first.fits(n) {
+        return Err("the first kind fits")?;
+    }
+    Ok(Member::start(alloc, n, zero, first)?)
+}
+
+fn send(alloc: Global, one: &mut One, out: &mut Sent) -> Result<Answer, Fail>
+    ensures { (kept_by one.new).members ≡ (kept_by one.old).members }
+{
+    let Some(text) = Text::new(alloc, b"a")? else {
+        return Err("a payload")?;
+    };
+    if one.accepted() >= 1_000_000 {
+        return Err("too many")?;
+    }
+    Ok(one.call(alloc, &Call::Send(text), out)?)
+}
+
+fn change(alloc: Global, one: &mut One, kind: Kind, out: &mut Sent) -> Result<Answer, Fail>
+    ensures { (kept_by one.new).members ≡ (kept_by one.old).members }
+{
+    if !SequencerOrder::serves(kind) {
+        return Err("a kind that is served")?;
+    }
+    if one.accepted() >= 1_000_000 {
+        return Err("too many")?;
+    }
+    Ok(one.call(alloc, &Call::Change(kind), out)?)
+}
+
+fn suspect(alloc: Global, one: &mut One, who: u8, out: &mut Sent) -> Result<Answer, Fail>
+    ensures { (kept_by one.new).members ≡ (kept_by one.old).members }
+{
+    if one.accepted() >= 1_000_000 {
+        return Err("too many")?;
+    }
+    Ok(one.call(alloc, &Call::Suspect(who), out)?)
+}
+
+fn crash(alloc: Global, one: &mut One, out: &mut Sent) -> Result<Answer, Fail>
+    ensures { (kept_by one.new).members ≡ (kept_by one.old).members }
+{
+    if one.accepted() >= 1_000_000 {
+        return Err("too many")?;
+    }
+    Ok(one.call(alloc, &Call::Crash, out)?)
+}
+
+/// The member of a group of one takes a frame that it sent to itself.
+fn receive(alloc: Global, one: &mut One, frame: Frame, out: &mut Sent) -> Result<(), Fail>
+    requires { (kept_by one.old).members ≡ 1 }
+    ensures { (kept_by one.new).members ≡ 1 }
+{
+    if one.crashed() {
+        return Err("up")?;
+    }
+    if !frame.fits(1) {
+        return Err("a frame that fits")?;
+    }
+    if !frame.body.counts_from_one() {
+        return Err("a body that counts")?;
+    }
+    let zero = member(0)?;
+    one.take(alloc, zero, frame, out)?;
+    Ok(())
+}
+
+/// The next frame of the member of a group of one goes back to it.
+fn pass(alloc: Global, one: &mut One, out: &mut Sent) -> Result<(), Fail>
+    requires { (kept_by one.old).members ≡ 1 }
+    ensures { (kept_by one.new).members ≡ 1 }
+{
+    let Some((_, frame)) = out.drain_first() else {
+        return Err("a frame")?;
+    };
+    receive(alloc, one, frame, out)
+}
+
+/// A change to the sequencer 0 in a group of one, with its two receipts.
+fn replace(alloc: Global, one: &mut One) -> Result<Answer, Fail>
+    requires { (kept_by one.old).members ≡ 1 }
+    ensures { (kept_by one.new).members ≡ 1 }
+{
+    let mut out = Sent::new(alloc);
+    let answer = change(alloc, one, Kind::Sequencer(member(0)?), &mut out)?;
+    pass(alloc, one, &mut out)?;
+    pass(alloc, one, &mut out)?;
+    if out.drain_first().is_some() {
+        return Err("two frames")?;
+    }
+    Ok(answer)
+}
+
+fn replace_again(alloc: Global, one: &mut One, times: u16) -> Result<(), Fail>
+    requires { (kept_by one.old).members ≡ 1 }
+    ensures { (kept_by one.new).members ≡ 1 }
+{
+    for _ in 0..times {
+        replace(alloc, one)?;
+    }
+    Ok(())
+}
+
+#[test]
+fn the_last_version(rt: HostRuntime) -> Result<(), Fail> {
+    let alloc = rt.alloc();
+    let mut out = Sent::new(alloc);
+    let mut one = started(alloc, 1)?;
+    assert_eq!(rt; replace(alloc, &mut one)?, Answer::Accepted(0));
+    assert_eq!(rt; (one.version(), one.log().len()), (1, 1));
+    replace_again(alloc, &mut one, 999)?;
+    assert_eq!(rt; (one.version(), one.log().len()), (1000, 1000));
+    let zero = Kind::Sequencer(member(0)?);
+    assert_eq!(rt; one.kind(), zero);
+    assert_eq!(rt;
+        change(alloc, &mut one, zero, &mut out)?,
+        Answer::VersionLimit
+    );
+    assert!(rt; out.drain_first().is_none());
+    assert_eq!(rt; send(alloc, &mut one, &mut out)?, Answer::Accepted(1000));
+    assert_eq!(rt; (one.undelivered(), one.would_fill()), (1, false));
+    Ok(())
+}
+
+#[test]
+fn refusals(rt: HostRuntime) -> Result<(), Fail> {
+    let alloc = rt.alloc();
+    let mut out = Sent::new(alloc);
+    let mut one = started(alloc, 3)?;
+    assert_eq!(rt; suspect(alloc, &mut one, 5, &mut out)?, Answer::BadMember);
+    assert_eq!(rt; suspect(alloc, &mut one, 0, &mut out)?, Answer::BadMember);
+    assert_eq!(rt; suspect(alloc, &mut one, 2, &mut out)?, Answer::Done);
+    let four = Kind::Sequencer(member(4)?);
+    assert_eq!(rt; change(alloc, &mut one, four, &mut out)?, Answer::BadKind);
+    assert_eq!(rt; crash(alloc, &mut one, &mut out)?, Answer::Done);
+    assert_eq!(rt; suspect(alloc, &mut one, 5, &mut out)?, Answer::Crashed);
+    assert_eq!(rt; change(alloc, &mut one, four, &mut out)?, Answer::Crashed);
+    assert_eq!(rt; send(alloc, &mut one, &mut out)?, Answer::Crashed);
+    assert!(rt; one.crashed());
+    assert!(rt; out.drain_first().is_none());
+    Ok(())
+}
+
+#[test]
+fn a_frame_of_the_next_version(rt: HostRuntime) -> Result<(), Fail> {
+    let alloc = rt.alloc();
+    let mut out = Sent::new(alloc);
+    let mut one = started(alloc, 1)?;
+    let early = Frame {
+        version: 1,
+        body: Body::Ack { stamp: 1 },
+    };
+    receive(alloc, &mut one, early, &mut out)?;
+    assert!(rt; !one.ready());
+    if !one.crashed() {
+        assert!(rt; !one.release(alloc, &mut out)?);
+    }
+    replace(alloc, &mut one)?;
+    assert!(rt; one.ready());
+    if !one.crashed() {
+        assert!(rt; one.release(alloc, &mut out)?);
+    }
+    assert!(rt; !one.ready());
+    Ok(())
+}
+
+#[test]
+fn prepared_and_committed(rt: HostRuntime) -> Result<(), Fail> {
+    let alloc = rt.alloc();
+    let mut one = started(alloc, 1)?;
+    let text = Text::new(alloc, b"a")?.ok_or("a payload")?;
+    let input = Input::Call(Call::Send(text));
+    if one.accepted() >= 1_000_000 {
+        return Err("too many")?;
+    }
+    let prepared = one.prepare(alloc, &input)?;
+    assert_eq!(rt; prepared.answer(), Some(Answer::Accepted(0)));
+    assert_eq!(rt; prepared.sent().len(), 1);
+    assert_eq!(rt; one.accepted(), 0);
+    let (answer, mut sent) = one.commit(prepared);
+    assert_eq!(rt; (answer, one.accepted()), (Some(Answer::Accepted(0)), 1));
+    let (to, frame) = sent.drain_first().ok_or("a frame")?;
+    assert_eq!(rt; (to, frame.version), (member(0)?, 0));
+    assert!(rt; sent.drain_first().is_none());
+    Ok(())
+}
+
+#[test]
+fn a_prepared_receipt(rt: HostRuntime) -> Result<(), Fail> {
+    let alloc = rt.alloc();
+    let mut out = Sent::new(alloc);
+    let mut one = started(alloc, 1)?;
+    let zero = member(0)?;
+    assert_eq!(rt; send(alloc, &mut one, &mut out)?, Answer::Accepted(0));
+    let Some((_, frame)) = out.drain_first() else {
+        return Err("a frame")?;
+    };
+    if one.crashed() {
+        return Err("up")?;
+    }
+    if !frame.fits(1) {
+        return Err("a frame that fits")?;
+    }
+    if !frame.body.counts_from_one() {
+        return Err("a body that counts")?;
+    }
+    let input = Input::Receive { from: zero, frame };
+    let prepared = one.prepare(alloc, &input)?;
+    assert!(rt; prepared.answer().is_none());
+    assert_eq!(rt; prepared.sent().len(), 1);
+    let Some((_, ordered)) = prepared.sent().first() else {
+        return Err("a frame")?;
+    };
+    assert!(rt; matches!(ordered.body, Body::Ord { place: 1, .. }));
+    Ok(())
+}
