@@ -1,0 +1,10 @@
+pub mod Lists
+pub mod Nets
+pub mod Promised
+pub mod Sends
+pub mod Inputs
+pub mod Afterwards
+pub mod Standing
+pub mod Openings
+pub mod Asked
+pub mod Making

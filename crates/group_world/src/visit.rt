@@ -1,0 +1,9 @@
+use member_core::Input;
+use upd_base::MemberId;
+
+/// A member and the input that it is to have.
+#[derive(Drop)]
+pub struct Visit {
+    pub at: MemberId,
+    pub input: Input,
+}
