@@ -1,0 +1,12 @@
+use Rattle.group_run.specs.Part.{present_kind}
+use Rattle.run_journal.proofs.Props.{Kind-set}
+use Rattle.member_core.specs.Member.{kept_by}
+use Rattle.group_world.specs.Seen.{seen_by}
+use Rattle.run_journal.specs.Journal.{plan_of, past_of}
+use Rattle.run_journal.proofs.Reading.{read}
+use Rattle.run_journal.proofs.journal.Journal.kind.Goals as goal
+
+pub returns : goal.returns
+returns g c =
+    let j = c.args.self.now in
+    read g.O.Ordering (plan_of j) (seen_by j.world) (past_of j) c.args.m (kept_by c.member.result.now) c.kind.result (λ g me p. present_kind g me p) Kind-set j.of_plan j.stands c.member.ensures.value c.kind.ensures.part

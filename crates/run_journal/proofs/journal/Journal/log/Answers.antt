@@ -1,0 +1,12 @@
+use Rattle.group_run.specs.Part.{log}
+use Rattle.run_journal.proofs.Props.{Entries-set}
+use Rattle.member_core.specs.Member.{kept_by}
+use Rattle.group_world.specs.Seen.{seen_by}
+use Rattle.run_journal.specs.Journal.{plan_of, past_of}
+use Rattle.run_journal.proofs.Reading.{read}
+use Rattle.run_journal.proofs.journal.Journal.log.Goals as goal
+
+pub returns : goal.returns
+returns g c =
+    let j = c.args.self.now in
+    read g.O.Ordering (plan_of j) (seen_by j.world) (past_of j) c.args.m (kept_by c.member.result.now) c.log.result.now.entries (λ g me p. log g me p) Entries-set j.of_plan j.stands c.member.ensures.value c.log.ensures.part

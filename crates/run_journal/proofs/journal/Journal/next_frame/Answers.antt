@@ -1,0 +1,12 @@
+use Rattle.std.proofs.Common.{sym, ◌∙◌}
+use Rattle.group_world.specs.Seen.{seen_by}
+use Rattle.run_journal.specs.Journal.{plan_of, past_of}
+use Rattle.run_journal.proofs.Props.{Frame-set}
+use Rattle.run_journal.proofs.Reading.{is_open, frame_is}
+use Rattle.run_journal.proofs.journal.Journal.next_frame.Goals as goal
+
+pub returns : goal.returns
+returns g c =
+    let j = c.args.self.now in
+    is_open _ _ _ (sym c.crashed.ensures ∙ c.if-crashed.false)
+    (c.frame.ensures.value ∙ sym (frame_is g.O.Ordering (plan_of j) (seen_by j.world) (past_of j) c.args.from c.args.to Frame-set c.requires.from_fits c.requires.to_fits j.stands))

@@ -1,0 +1,4 @@
+pub mod Journal
+pub mod Asked
+pub mod Causes
+pub mod Serving
