@@ -1,0 +1,10 @@
+//! The theorem at a recorded run, for any ordering modules that keep the four laws.
+#![tactic(auto)]
+
+mod laws;
+mod longest;
+mod loud;
+
+pub use laws::{journal_is_bounded, journal_is_fulfilled, journal_is_ordered};
+pub use longest::canon;
+pub use loud::quiet;
