@@ -1,0 +1,7 @@
+mod Visits
+mod Waiting
+mod AtRest
+mod AllChoices
+mod TurnLaws
+mod DrawLaws
+mod EndLaws

@@ -1,0 +1,4 @@
+pub mod Choices
+pub mod Rounds
+pub mod Seeded
+pub mod Ends
