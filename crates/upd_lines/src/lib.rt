@@ -1,0 +1,6 @@
+//! Lines: what carries the bytes of frames from one member to another.
+#![tactic(auto)]
+
+mod line;
+
+pub use line::{Line, LineMaker};
