@@ -215,16 +215,21 @@ fn prepared_and_committed(rt: HostRuntime) -> Result<(), Fail> {
     Ok(())
 }
 
-#[test]
-fn a_prepared_receipt(rt: HostRuntime) -> Result<(), Fail> {
-    let alloc = rt.alloc();
-    let mut out = Sent::new(alloc);
-    let mut one = started(alloc, 1)?;
-    let zero = member(0)?;
-    assert_eq!(rt; send(alloc, &mut one, &mut out)?, Answer::Accepted(0));
-    let Some((_, frame)) = out.drain_first() else {
-        return Err("a frame")?;
-    };
+/// The place at which frames order an item, where they are one order.
+fn place_of(sent: &[(MemberId, Frame)]) -> Option<u64> {
+    if sent.len() != 1 {
+        return None;
+    }
+    match &sent[0].1.body {
+        Body::Ord { place, .. } => Some(*place),
+        _ => None,
+    }
+}
+
+/// Prepares the receipt of a frame: whether it answers nothing, and the place at which it orders an item.
+fn prepared_receipt(alloc: Global, one: &mut One, frame: Frame) -> Result<(bool, Option<u64>), Fail>
+    requires { (kept_by one.old).members ≡ 1 }
+{
     if one.crashed() {
         return Err("up")?;
     }
@@ -234,13 +239,21 @@ fn a_prepared_receipt(rt: HostRuntime) -> Result<(), Fail> {
     if !frame.body.counts_from_one() {
         return Err("a body that counts")?;
     }
-    let input = Input::Receive { from: zero, frame };
+    let from = member(0)?;
+    let input = Input::Receive { from, frame };
     let prepared = one.prepare(alloc, &input)?;
-    assert!(rt; prepared.answer().is_none());
-    assert_eq!(rt; prepared.sent().len(), 1);
-    let Some((_, ordered)) = prepared.sent().first() else {
+    Ok((prepared.answer().is_none(), place_of(prepared.sent())))
+}
+
+#[test]
+fn a_prepared_receipt(rt: HostRuntime) -> Result<(), Fail> {
+    let alloc = rt.alloc();
+    let mut out = Sent::new(alloc);
+    let mut one = started(alloc, 1)?;
+    assert_eq!(rt; send(alloc, &mut one, &mut out)?, Answer::Accepted(0));
+    let Some((_, frame)) = out.drain_first() else {
         return Err("a frame")?;
     };
-    assert!(rt; matches!(ordered.body, Body::Ord { place: 1, .. }));
+    assert_eq!(rt; prepared_receipt(alloc, &mut one, frame)?, (true, Some(1)));
     Ok(())
 }

@@ -2,5 +2,5 @@ use Rattle.std.proofs.Common.{◌≡◌}
 use Rattle.member_core.specs.Member.{kept_by}
 use Rattle.member_tests.proofs.tests.replace_again.Given as goal
 
-abbrev pub invariant-loop-1 : goal.invariant-loop-1
-invariant-loop-1 l = (kept_by l.one).members ≡ 1
+abbrev pub invariant-loop : goal.invariant-loop
+invariant-loop l = (kept_by l.one).members ≡ 1
