@@ -51,8 +51,8 @@ fn short(entry: &Entry) -> (u16, u8, u32, bool) {
 
 /// The log of the member with the longest one, in short.
 fn longest(alloc: Global, journal: &Journal<Module>) -> Result<Vec<(u16, u8, u32, bool)>, Fail> {
-    let lead = canon(journal);
-    let lead = MemberId::new(lead as u8).ok_or("a member")?;
+    let lead = u8::try_from(canon(journal)).ok().ok_or("a member")?;
+    let lead = MemberId::new(lead).ok_or("a member")?;
     let mut entries = Vec::new(alloc);
     for entry in journal.log(lead).entries() {
         entries.push(short(entry))?;
@@ -151,7 +151,10 @@ fn receive_over(
         return Ok(false);
     };
     let got = carried(alloc, from, to, frame)?;
-    journal.receive(alloc, from, to, &got).ok().ok_or("a receipt")?;
+    journal
+        .receive(alloc, from, to, &got)
+        .ok()
+        .ok_or("a receipt")?;
     Ok(true)
 }
 
@@ -186,6 +189,9 @@ fn a_run_over_lines(rt: HostRuntime) -> Result<(), Fail> {
         receive_all(alloc, &mut journal)?;
     }
     assert!(rt; journal.settled());
-    assert_eq!(rt; longest(alloc, &journal)?.as_slice(), [(0, 1, 0, true), (0, 2, 0, true)].as_slice());
+    assert_eq!(rt;
+        longest(alloc, &journal)?.as_slice(),
+        [(0, 1, 0, true), (0, 2, 0, true)].as_slice()
+    );
     Ok(())
 }
