@@ -1,4 +1,4 @@
-ghost use Rattle.std.specs.Prelude.{◌≡◌, ◌↔◌, IfOk, IsTrue, length};
+ghost use Rattle.std.specs.Prelude.{◌≡◌, true, ◌↔◌, IfOk, IsTrue, length};
 ghost use Rattle.std.specs.List.{list_all};
 ghost use Rattle.upd_base.specs.Batch.{ascends, comes_first, batch, is_batch};
 ghost use Rattle.upd_base.specs.Item.{item_fits};
@@ -43,6 +43,13 @@ impl Batch {
         ensures { result.now ≡ self.now }
     {
         self.items.as_slice()
+    }
+
+    /// The batch keeps its limits and its order: a law, for a caller that holds it borrowed.
+    pub fn keeps_limits(&self)
+        ensures { is_batch self.now ≡ true }
+    {
+        let _items = self.items.as_slice();
     }
 
     /// The same batch.

@@ -1,4 +1,4 @@
-ghost use Rattle.std.specs.Prelude.{◌≡◌, ◌+◌, ◌*◌, ◌≤◌, ◌<◌, ◌^◌, ◌-◌, min, map, Some, IfOk, sum_by, length, slice_get};
+ghost use Rattle.std.specs.Prelude.{◌≡◌, true, ◌+◌, ◌*◌, ◌≤◌, ◌<◌, ◌^◌, ◌-◌, min, map, Some, IfOk, sum_by, length, slice_get};
 ghost use Rattle.std.specs.List.{list_all};
 ghost use Rattle.upd_base.specs.Plan.{bodies_bound, bound, call_fits, change_count, changes_in, is_plan, plan_of, plan_where_it_fits, planned, send_count, sends_in, step_fits, steps_in, steps_of, Planned};
 
@@ -96,6 +96,13 @@ impl Plan {
             total_sends(threads),
             changes,
         )
+    }
+
+    /// The plan keeps its limits and rules: a law, for a caller that holds it borrowed.
+    pub fn keeps_limits(&self)
+        ensures { is_plan self.now ≡ true }
+    {
+        let _members = self.members;
     }
 
     /// The same plan; payloads' bytes are shared.

@@ -19,6 +19,7 @@ fn payloads(rt: HostRuntime) -> Result<(), Fail> {
     let alloc = rt.alloc();
     let longest = vec![in alloc; b'~'; 256]?;
     let payload = text(alloc, longest.as_slice())?;
+    payload.keeps_limits();
     assert_eq!(rt; payload.copy()?.bytes(), longest.as_slice());
     let too_long = vec![in alloc; b'a'; 257]?;
     assert!(rt; Text::new(alloc, too_long.as_slice())?.is_none());
@@ -37,6 +38,7 @@ fn batches(rt: HostRuntime) -> Result<(), Fail> {
         message(alloc, 1, 1)?,
     ]?;
     let batch = Batch::new(items).ok_or("no batch")?;
+    batch.keeps_limits();
     assert_eq!(rt; batch.copy(alloc)?, batch);
     assert!(rt; batch.fits(2) && !batch.fits(1));
     let twice = vec![in alloc; message(alloc, 1, 0)?, message(alloc, 1, 0)?]?;
@@ -65,6 +67,7 @@ fn plans(rt: HostRuntime) -> Result<(), Fail> {
     let threads = vec![in alloc; steps]?;
     let plan = Plan::new(5, Kind::Consensus, threads).ok_or("no plan")?;
     let plan = plan.copy(alloc)?;
+    plan.keeps_limits();
     assert_eq!(rt; (plan.members(), plan.first()), (5, Kind::Consensus));
     assert_eq!(rt; plan.bound(), 4_161_000);
     assert!(rt; plan.threads() == 1);

@@ -1,4 +1,4 @@
-ghost use Rattle.std.specs.Prelude.{◌≡◌, IfOk};
+ghost use Rattle.std.specs.Prelude.{◌≡◌, true, IfOk};
 ghost use Rattle.std.specs.List.{list_all};
 ghost use Rattle.upd_base.specs.Text.{is_payload, is_printable, payload};
 
@@ -43,6 +43,13 @@ impl Text {
         ensures { result.now ≡ self.now }
     {
         self.bytes.as_slice()
+    }
+
+    /// The payload keeps its limits: a law, for a caller that holds it borrowed.
+    pub fn keeps_limits(&self)
+        ensures { is_payload self.now ≡ true }
+    {
+        let _bytes = self.bytes.as_slice();
     }
 
     /// The same payload, over the same bytes in memory.
