@@ -16,7 +16,7 @@ use Rattle.member_rules.specs.Kept.{Kept}
 use Rattle.member_core.specs.Member.{kept_by}
 use Rattle.member_core.specs.declared.input.Input.{Input}
 use Rattle.member_core.specs.declared.input.Input.TheVariants.{Call, Receive, Release}
-use Rattle.member_core.specs.Input.{MayHave}
+use Rattle.member_core.specs.Input.{MayHave, is_call}
 use Rattle.member_core.specs.Prepared.{answer_of, sent_of}
 use Rattle.member_rules.specs.Steps.{SentFits}
 use Rattle.group_world.specs.declared.moves.Move.{Move}
@@ -24,39 +24,52 @@ use Rattle.group_world.specs.declared.moves.Move.TheVariants.{Call as CallMove, 
 use Rattle.group_world.specs.declared.prepared.PreparedMove.{PreparedMove}
 use Rattle.group_world.specs.declared.world.World.{World}
 use Rattle.group_world.specs.Seen.{Seen, seen_by, made_by, IsWorldOf}
-use Rattle.group_world.specs.Moves.{is_enabled, IsMove, HasThreadOf}
+use Rattle.group_world.specs.Moves.{is_enabled, IsMove, HasThreadOf, is_call_move}
 use Rattle.group_world.specs.Prepared.{place_of, HasRoomAt, HasSender, HasThread, IsReady}
-use Rattle.group_world.specs.Makes.{IsPrepared, Gives, Makes, IsInput, event_made}
+use Rattle.group_world.specs.Makes.{IsPrepared, Gives, Makes, IsInput, IsEventOf}
 use Rattle.group_world.proofs.Inputs.{step_below}
 use Rattle.group_world.proofs.Asked.{some_found, member_found}
 
 -- What a move gives is what its event gives, at the same member
-pub place_is : {O : Type 0} (plan : Planned) (s : Seen O) (choice : Move) (at : ℕ) (x : Input) (answered : Option Answer) → IsInput plan s choice at x → place_of (event_made s choice at answered) ≡ at
-place_is plan s (CallMove thread) at (Call call) answered h = refl
-place_is plan s (ReceiveMove from to) at (Receive f frame) answered h = h.0
-place_is plan s (ReleaseMove m) at Release answered h = h
-place_is plan s (CallMove thread) at (Receive f frame) answered h = absurd h
-place_is plan s (CallMove thread) at Release answered h = absurd h
-place_is plan s (ReceiveMove from to) at (Call call) answered h = absurd h
-place_is plan s (ReceiveMove from to) at Release answered h = absurd h
-place_is plan s (ReleaseMove m) at (Call call) answered h = absurd h
-place_is plan s (ReleaseMove m) at (Receive f frame) answered h = absurd h
+pub place_is : {O : Type 0} (plan : Planned) (s : Seen O) (choice : Move) (at : ℕ) (x : Input) (answered : Option Answer) (e : Event) → IsInput plan s choice at x → IsEventOf s choice at answered e → place_of e ≡ at
+place_is plan s (CallMove thread) at (Call call) answered e h is = ap place_of is.2
+place_is plan s (ReceiveMove from to) at (Receive f frame) answered e h is = ap place_of is ∙ h.0
+place_is plan s (ReleaseMove m) at Release answered e h is = ap place_of is ∙ h
+place_is plan s (CallMove thread) at (Receive f frame) answered e h is = absurd h
+place_is plan s (CallMove thread) at Release answered e h is = absurd h
+place_is plan s (ReceiveMove from to) at (Call call) answered e h is = absurd h
+place_is plan s (ReceiveMove from to) at Release answered e h is = absurd h
+place_is plan s (ReleaseMove m) at (Call call) answered e h is = absurd h
+place_is plan s (ReleaseMove m) at (Receive f frame) answered e h is = absurd h
 
-gives_is : {O : Type 0} (plan : Planned) (s : Seen O) (choice : Move) (at : ℕ) (x : Input) (answered : Option Answer) → IsInput plan s choice at x → Gives plan s answered (event_made s choice at answered) x
-gives_is plan s (CallMove thread) at (Call call) answered h = (record { step = h.0; planned_step = h.1; next = refl; at = h.2; answer = refl }, h.3)
-gives_is plan s (ReceiveMove from to) at (Receive f frame) answered h = (h.1, h.2, h.3)
-gives_is plan s (ReleaseMove m) at Release answered h = tt
-gives_is plan s (CallMove thread) at (Receive f frame) answered h = absurd h
-gives_is plan s (CallMove thread) at Release answered h = absurd h
-gives_is plan s (ReceiveMove from to) at (Call call) answered h = absurd h
-gives_is plan s (ReceiveMove from to) at Release answered h = absurd h
-gives_is plan s (ReleaseMove m) at (Call call) answered h = absurd h
-gives_is plan s (ReleaseMove m) at (Receive f frame) answered h = absurd h
+gives_is : {O : Type 0} (plan : Planned) (s : Seen O) (choice : Move) (at : ℕ) (x : Input) (answered : Option Answer) (e : Event) → IsInput plan s choice at x → IsEventOf s choice at answered e → Gives plan s answered e x
+gives_is plan s (CallMove thread) at (Call call) answered e h is =
+    subst (λ y. Gives plan s answered y (Call call)) (sym is.2) (record { step = h.0; planned_step = h.1; next = refl; at = h.2; answer = is.1 }, h.3)
+gives_is plan s (ReceiveMove from to) at (Receive f frame) answered e h is = subst (λ y. Gives plan s answered y (Receive f frame)) (sym is) (h.1, h.2, h.3)
+gives_is plan s (ReleaseMove m) at Release answered e h is = subst (λ y. Gives plan s answered y Release) (sym is) tt
+gives_is plan s (CallMove thread) at (Receive f frame) answered e h is = absurd h
+gives_is plan s (CallMove thread) at Release answered e h is = absurd h
+gives_is plan s (ReceiveMove from to) at (Call call) answered e h is = absurd h
+gives_is plan s (ReceiveMove from to) at Release answered e h is = absurd h
+gives_is plan s (ReleaseMove m) at (Call call) answered e h is = absurd h
+gives_is plan s (ReleaseMove m) at (Receive f frame) answered e h is = absurd h
 
-pub move_is : {O : Type 0} (s : Seen O) (choice : Move) (at : ℕ) (answered : Option Answer) → IsMove choice (event_made s choice at answered)
-move_is s (CallMove thread) at answered = refl
-move_is s (ReceiveMove from to) at answered = (refl, refl)
-move_is s (ReleaseMove m) at answered = refl
+pub move_is : {O : Type 0} (s : Seen O) (choice : Move) (at : ℕ) (answered : Option Answer) (e : Event) → IsEventOf s choice at answered e → IsMove choice e
+move_is s (CallMove thread) at answered e is = subst (IsMove (CallMove thread)) (sym is.2) refl
+move_is s (ReceiveMove from to) at answered e is = subst (IsMove (ReceiveMove from to)) (sym is) (refl, refl)
+move_is s (ReleaseMove m) at answered e is = subst (IsMove (ReleaseMove m)) (sym is) refl
+
+-- a move that gives a call is one
+pub call_given : {O : Type 0} (plan : Planned) (s : Seen O) (choice : Move) (at : ℕ) (x : Input) → IsInput plan s choice at x → is_call x ≡ is_call_move choice
+call_given plan s (CallMove thread) at (Call call) h = refl
+call_given plan s (ReceiveMove from to) at (Receive f frame) h = refl
+call_given plan s (ReleaseMove m) at Release h = refl
+call_given plan s (CallMove thread) at (Receive f frame) h = absurd h
+call_given plan s (CallMove thread) at Release h = absurd h
+call_given plan s (ReceiveMove from to) at (Call call) h = absurd h
+call_given plan s (ReceiveMove from to) at Release h = absurd h
+call_given plan s (ReleaseMove m) at (Call call) h = absurd h
+call_given plan s (ReleaseMove m) at (Receive f frame) h = absurd h
 
 pub thread_of : {O : Type 0} (G : Ghosts O) (plan : Planned) (s : Seen O) (choice : Move) → IsWorldOf G plan s → is_enabled plan s choice ≡ true → HasThreadOf choice s.made
 thread_of G plan s (CallMove thread) w e =
@@ -68,12 +81,12 @@ thread_of G plan s (ReceiveMove from to) w e = tt
 thread_of G plan s (ReleaseMove m) w e = tt
 
 pub makes_of : {O : Type 0} (G : Ghosts O) (plan : Planned) (s : Seen O) (choice : Move) (at : ℕ) (x : Input) (k : Kept O) (p : PreparedMove O) → IsInput plan s choice at x → slice_get s.members at ≡ Some k
-    → MayHave G k x → p.event ≡ event_made s choice at (answer_of p.member) → IsPrepared G k x p.member → Makes G plan s p
+    → MayHave G k x → IsEventOf s choice at (answer_of p.member) p.event → IsPrepared G k x p.member → Makes G plan s p
 makes_of G plan s choice at x k p i found may is prepared =
-    let place : place_of p.event ≡ at = ap place_of is ∙ place_is plan s choice at x (answer_of p.member) i in
+    let place : place_of p.event ≡ at = place_is plan s choice at x (answer_of p.member) p.event i is in
     record {
       input = x;
-      gives = subst (λ e. Gives plan s (answer_of p.member) e x) (sym is) (gives_is plan s choice at x (answer_of p.member) i);
+      gives = gives_is plan s choice at x (answer_of p.member) p.event i is;
       member = k;
       found = ap (slice_get s.members) place ∙ found;
       may = may;
@@ -128,7 +141,7 @@ ready_is {O} G plan w at p h m place room =
 -- Where it is made at all --------------------------------------------------------------------------------------------
 
 pub made_all : {O E : Type 0} (G : Ghosts O) (plan : Planned) (s : Seen O) (choice : Move) (at : ℕ) (x : Input) (r : Result (PreparedMove O) E) → IsInput plan s choice at x → at < length s.members
-    → ((k : Kept O) → slice_get s.members at ≡ Some k → MayHave G k x) → IfOk r (λ p. p.event ≡ event_made s choice at (answer_of p.member))
+    → ((k : Kept O) → slice_get s.members at ≡ Some k → MayHave G k x) → IfOk r (λ p. IsEventOf s choice at (answer_of p.member) p.event)
     → IfOk r (λ p. (k : Kept O) → slice_get s.members at ≡ Some k → IsPrepared G k x p.member) → IfOk r (λ p. Makes G plan s p)
 made_all G plan s choice at x (Ok p) i below may is prepared =
     let m = member_found s.members at below in
@@ -136,7 +149,7 @@ made_all G plan s choice at x (Ok p) i below may is prepared =
 made_all G plan s choice at x (Err e) i below may is prepared = tt
 
 pub ready_all : {O E : Type 0} (G : Ghosts O) (plan : Planned) (w : World O G) (s : Seen O) (choice : Move) (at : ℕ) (x : Input) (r : Result (PreparedMove O) E) → seen_by w ≡ s → IsWorldOf G plan s → IsInput plan s choice at x
-    → IfOk r (λ p. p.event ≡ event_made s choice at (answer_of p.member)) → IfOk r (λ p. HasRoomAt G w at p.member) → IfOk r (λ p. Makes G plan s p) → IfOk r (λ p. IsReady G w p)
+    → IfOk r (λ p. IsEventOf s choice at (answer_of p.member) p.event) → IfOk r (λ p. HasRoomAt G w at p.member) → IfOk r (λ p. Makes G plan s p) → IfOk r (λ p. IsReady G w p)
 ready_all G plan w s choice at x (Ok p) same h i is room makes =
-    ready_is G plan w at p (subst (IsWorldOf G plan) (sym same) h) (subst (λ z. Makes G plan z p) (sym same) makes) (ap place_of is ∙ place_is plan s choice at x (answer_of p.member) i) room
+    ready_is G plan w at p (subst (IsWorldOf G plan) (sym same) h) (subst (λ z. Makes G plan z p) (sym same) makes) (place_is plan s choice at x (answer_of p.member) p.event i is) room
 ready_all G plan w s choice at x (Err e) same h i is room makes = tt

@@ -1,12 +1,11 @@
 -- What a world stands for, one event later.
 use Rattle.std.proofs.Common.{ℕ, ◌≡◌, ◌<◌, ◌+◌, ◌==◌, List, [], ◌∷◌, ◌++◌, length, set, refl, sym, ◌∙◌, ap, subst, arith, Some, None, if◌then◌else◌, Option, append_assoc}
-use Rattle.std.specs.Prelude.{IsSome, unwrap_or}
-use Rattle.std.proofs.lemmas.Option.{slice_get_within}
+use Rattle.std.specs.Prelude.{IsSome}
+use Rattle.std.proofs.lemmas.Option.{same_Some, slice_get_within}
 use Rattle.fifo_net.specs.Net.{Input as NetInput, inputs_of, taken_on, sent_on, bodies_to}
 use Rattle.fifo_net.proofs.Links.{inputs_here, inputs_away}
 use Rattle.order_trait.specs.declared.ordering.Ordering.{Ghosts}
 use Rattle.upd_base.specs.declared.answer.Answer.{Answer}
-use Rattle.upd_base.specs.declared.answer.Answer.TheVariants.{Done}
 use Rattle.upd_base.specs.declared.frame.Frame.{Frame}
 use Rattle.upd_base.specs.declared.event.Event.{Event}
 use Rattle.upd_base.specs.declared.event.Event.TheVariants.{Call as CallEvent, Receive as ReceiveEvent, Release as ReleaseEvent}
@@ -73,7 +72,7 @@ enabled_now : {O : Type 0} (G : Ghosts O) (plan : Planned) (s : Seen O) (past : 
     → Known G plan past (place_of e) k x answered → IsEnabled (rules_of G) plan past e
 enabled_now G plan s past (CallEvent thread index member given) (Call call) k answered n w st known =
     let a : given ≡ answer (group (rules_of G) plan) member (part (rules_of G) plan past member) n.0.step.call =
-    n.0.answer ∙ ap (λ o. unwrap_or o Done) known.answers ∙ ap (λ c. answer (group (rules_of G) plan) member (part (rules_of G) plan past member) c) (sym n.1) in
+    same_Some _ _ (sym n.0.answer ∙ known.answers) ∙ ap (λ c. answer (group (rules_of G) plan) member (part (rules_of G) plan past member) c) (sym n.1) in
     subst (λ o. IsCall (rules_of G) plan past thread index member given o) (sym n.0.planned_step)
     (record { next = n.0.next ∙ st.calls thread; at = sym n.0.at; answered = a })
 enabled_now G plan s past (ReceiveEvent from to) (Receive f frame) k answered n w st known =

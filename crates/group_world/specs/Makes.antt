@@ -1,10 +1,9 @@
 -- What is known of a prepared move: the input that it gives to its member, and what the member makes of it.
-use Rattle.std.specs.Prelude.{ℕ, ◌≡◌, ◌+◌, ◌<◌, ◌≤◌, Option, Some, List, ◌∷◌, All, length, slice_get, unwrap_or}
+use Rattle.std.specs.Prelude.{ℕ, ◌≡◌, ◌+◌, ◌<◌, ◌≤◌, Option, Some, List, ◌∷◌, All, length, slice_get}
 use Rattle.fifo_net.specs.Net.{Input as NetInput}
 use Rattle.order_trait.specs.declared.ordering.Ordering.{Ghosts}
 use Rattle.upd_base.specs.Plan.{Planned, planned}
 use Rattle.upd_base.specs.declared.answer.Answer.{Answer}
-use Rattle.upd_base.specs.declared.answer.Answer.TheVariants.{Done}
 use Rattle.upd_base.specs.declared.call.Step.{Step}
 use Rattle.upd_base.specs.declared.frame.Frame.{Frame}
 use Rattle.upd_base.specs.declared.event.Event.{Event}
@@ -42,7 +41,7 @@ pub record IsNextStep {O : Type 0} (plan : Planned) (s : Seen O) (thread index m
   pub planned_step : planned plan thread index ≡ Some step
   pub next : index ≡ made_by s thread
   pub at : step.at ≡ member
-  pub answer : given ≡ unwrap_or answered Done
+  pub answer : answered ≡ Some given
 
 -- the event gives this input to its member
 abbrev pub Gives : {O : Type 0} → Planned → Seen O → Option Answer → Event → Input → Type 0
@@ -68,8 +67,8 @@ IsInput plan s (ReceiveMove from to) at (Receive f frame) = (to ≡ at) × (f �
 IsInput plan s (ReleaseMove m) at Release = m ≡ at
 IsInput plan s choice at x = ⊥
 
--- the event that a move makes at a member that answers so
-abbrev pub event_made : {O : Type 0} → Seen O → Move → ℕ → Option Answer → Event
-event_made s (CallMove thread) at answered = CallEvent thread (made_by s thread) at (unwrap_or answered Done)
-event_made s (ReceiveMove from to) at answered = ReceiveEvent from to
-event_made s (ReleaseMove m) at answered = ReleaseEvent m
+-- the move makes this event at a member that answers so
+abbrev pub IsEventOf : {O : Type 0} → Seen O → Move → ℕ → Option Answer → Event → Type 0
+IsEventOf s (CallMove thread) at answered e = (given : Answer) × (answered ≡ Some given) × (e ≡ CallEvent thread (made_by s thread) at given)
+IsEventOf s (ReceiveMove from to) at answered e = e ≡ ReceiveEvent from to
+IsEventOf s (ReleaseMove m) at answered e = e ≡ ReleaseEvent m

@@ -1,5 +1,5 @@
 -- Moves: what may be chosen next in a group.
-use Rattle.std.specs.Prelude.{ℕ, Bool, false, ◌≡◌, ◌<◌, ◌&&◌, not, nat_lt, Option, Some, None, IsSome, is_some, List, length, slice_get}
+use Rattle.std.specs.Prelude.{ℕ, Bool, true, false, ◌≡◌, ◌<◌, ◌&&◌, not, nat_lt, Option, Some, None, IsSome, is_some, List, length, slice_get}
 use Rattle.upd_base.specs.Plan.{Planned, planned}
 use Rattle.upd_base.specs.declared.event.Event.{Event}
 use Rattle.upd_base.specs.declared.event.Event.TheVariants.{Call as CallEvent, Receive as ReceiveEvent, Release as ReleaseEvent}
@@ -46,3 +46,9 @@ abbrev pub HasThreadOf : Move → List ℕ → Type 0
 HasThreadOf (Call thread) made = thread < length made
 HasThreadOf (Receive from to) made = Unit {0}
 HasThreadOf (Release at) made = Unit {0}
+
+-- a call alone is answered
+abbrev pub is_call_move : Move → Bool
+is_call_move (Call thread) = true
+is_call_move (Receive from to) = false
+is_call_move (Release at) = false

@@ -1,5 +1,4 @@
 ghost use Rattle.std.specs.Prelude.{true, ◌≡◌, [], IfOk, length, map, replicate};
-ghost use Rattle.upd_base.specs.Plan.{is_plan};
 ghost use Rattle.member_core.specs.Member.{kept_by};
 ghost use Rattle.member_rules.specs.Stands.{Stands};
 ghost use Rattle.group_world.specs.Seen.{EachAt, IsSeated};
@@ -11,12 +10,12 @@ use upd_base::{MemberId, NoMemory, Plan};
 
 /// The members of a plan before any event.
 pub fn fresh_members<O: Ordering>(alloc: Global, plan: &Plan) -> Result<Vec<Member<O>>, NoMemory>
-    requires of_plan { is_plan plan.now ≡ true }
     requires first_served { O.is_served plan.now.first ≡ true }
     ensures many { IfOk result (λ ms. length ms.items ≡ plan.now.members) }
     ensures seats { IfOk result (λ ms. EachAt (IsSeated plan.now) (map (λ m. kept_by m) ms.items)) }
     ensures stand { IfOk result (λ ms. EachAt (λ i k. Stands O.Ordering k []) (map (λ m. kept_by m) ms.items)) }
 {
+    plan.keeps_limits();
     let mut members = Vec::new(alloc);
     for number in 0..plan.members() {
         if let Some(me) = MemberId::new(number) {

@@ -1,9 +1,10 @@
-ghost use Rattle.std.specs.Prelude.{◌≡◌, ◌<◌, ◌≤◌, ℕ, Some, IfOk, OnOk, length, map, slice_get};
+ghost use Rattle.std.specs.Prelude.{◌≡◌, ◌<◌, ◌≤◌, ℕ, Some, IfOk, OnOk, is_some, length, map, slice_get};
 ghost use Rattle.fifo_net.specs.Net.{bodies_to};
 ghost use Rattle.fifo_link.specs.Links.{spare_of};
 ghost use Rattle.member_rules.specs.Kept.{Kept};
 ghost use Rattle.member_core.specs.Member.{kept_by};
-ghost use Rattle.member_core.specs.Input.{MayHave};
+ghost use Rattle.member_core.specs.Input.{MayHave, is_call};
+ghost use Rattle.member_core.specs.Prepared.{answer_of};
 ghost use Rattle.group_world.specs.Prepared.{MemberHasRoom};
 ghost use Rattle.group_world.specs.Makes.{IsPrepared};
 
@@ -23,6 +24,7 @@ pub fn prepare_at<O: Ordering>(
     requires at_fits { at < length members.old.items }
     requires may { (k : Kept _) → slice_get (map (λ m. kept_by m) members.old.items) at ≡ Some k → MayHave O.Ordering k input.now }
     ensures kept { map (λ m. kept_by m) members.new.items ≡ map (λ m. kept_by m) members.old.items }
+    ensures answered { IfOk result (λ p. is_some (answer_of p) ≡ is_call input.now) }
     ensures ready { IfOk result (λ p. MemberHasRoom O.Ordering members.new.items at p) }
     ensures prepared { IfOk result (λ p. (k : Kept _) → slice_get (map (λ m. kept_by m) members.old.items) at ≡ Some k → IsPrepared O.Ordering k input.now p) }
 {

@@ -1,5 +1,5 @@
 ghost use Rattle.std.specs.Prelude.{ℕ, List, true, ◌≡◌, ◌<◌, [], ◌∷◌, IfOk, length};
-ghost use Rattle.upd_base.specs.Plan.{is_plan, plan_of};
+ghost use Rattle.upd_base.specs.Plan.{plan_of};
 ghost use Rattle.group_run.specs.Laws.{ServesPlan};
 ghost use Rattle.member_rules.specs.Kept.{rules_of};
 ghost use Rattle.group_world.specs.Seen.{IsWorldOf, seen_by};
@@ -13,7 +13,6 @@ use upd_base::{Call, Event, Kind, MemberId, Plan, Step, Text};
 
 // One member sends `a` and then changes.
 fn plan_of_one(alloc: Global, me: MemberId) -> Result<Plan, Fail>
-    ensures plan { IfOk result (λ p. is_plan p ≡ true) }
     ensures is { IfOk result (λ p. (text : List ℕ) × (p ≡ plan_of 1 (Kind.Sequencer me) ((record { at = me; call = Call.Send text } ∷ record { at = me; call = Call.Change (Kind.Sequencer me) } ∷ []) ∷ []))) }
 {
     let payload = Text::new(alloc, b"a")?.ok_or("no payload")?;
@@ -53,7 +52,6 @@ fn run_of_one<O: Ordering>(
     plan: &Plan,
     me: MemberId,
 ) -> Result<(usize, u16, u16, bool), Fail>
-    requires of_plan { is_plan plan.now ≡ true }
     requires first_served { O.is_served plan.now.first ≡ true }
     requires served { ServesPlan (rules_of O.Ordering) plan.now }
     requires one { plan.now.members ≡ 1 }

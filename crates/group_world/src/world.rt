@@ -23,27 +23,27 @@ pub struct World<O: Ordering> {
 }
 
 impl<O: Ordering> World<O> {
-    ghost use Rattle.upd_base.specs.Plan.{is_plan, planned};
+    ghost use Rattle.upd_base.specs.Plan.{planned};
     ghost use Rattle.group_run.specs.Run.{Events, next_frame};
     ghost use Rattle.group_run.specs.Laws.{ServesPlan};
     ghost use Rattle.member_rules.specs.Kept.{Kept, rules_of};
     ghost use Rattle.member_core.specs.Member.{kept_by};
     ghost use Rattle.member_core.specs.Prepared.{answer_of};
     ghost use Rattle.group_world.specs.Seen.{IsWorldOf, seen_by, frames_on, made_by};
-    ghost use Rattle.group_world.specs.Moves.{MayMove, can_receive, is_enabled, is_ready, IsMove, HasThreadOf};
+    ghost use Rattle.group_world.specs.Moves.{MayMove, can_receive, is_call_move, is_enabled, is_ready, IsMove, HasThreadOf};
     ghost use Rattle.group_world.specs.Stands.{Stands, IsShort};
-    ghost use Rattle.member_core.specs.Input.{MayHave};
+    ghost use Rattle.member_core.specs.Input.{MayHave, is_call};
     ghost use Rattle.group_world.specs.Prepared.{IsReady, IsAfter, HasRoomAt, event_of};
-    ghost use Rattle.group_world.specs.Makes.{IsInput, IsPrepared, event_made};
+    ghost use Rattle.group_world.specs.Makes.{IsInput, IsPrepared, IsEventOf};
 
     /// The world of a plan before any event. The kinds of the plan are served.
     pub fn opening(alloc: Global, plan: &Plan) -> Result<World<O>, NoMemory>
-        requires of_plan { is_plan plan.now ≡ true }
         requires first_served { O.is_served plan.now.first ≡ true }
         requires served { ServesPlan (rules_of O.Ordering) plan.now }
         ensures of_plan { IfOk result (λ w. IsWorldOf O.Ordering plan.now (seen_by w)) }
         ensures stands { IfOk result (λ w. Stands O.Ordering plan.now (seen_by w) []) }
     {
+        plan.keeps_limits();
         Ok(World {
             members: fresh_members(alloc, plan)?,
             links: Links::new(alloc, plan.members())?,
@@ -154,9 +154,10 @@ impl<O: Ordering> World<O> {
         requires at_fits { visit.at < (seen_by self.old).width }
         requires may { (k : Kept _) → slice_get (seen_by self.old).members visit.at ≡ Some k → MayHave O.Ordering k visit.input }
         requires thread { HasThreadOf choice (seen_by self.old).made }
+        requires call { is_call visit.input ≡ is_call_move choice }
         ensures kept { seen_by self.new ≡ seen_by self.old }
         ensures ready { IfOk result (λ p. HasRoomAt O.Ordering self.new visit.at p.member) }
-        ensures event { IfOk result (λ p. event_of p ≡ event_made (seen_by self.old) choice visit.at (answer_of p.member)) }
+        ensures event { IfOk result (λ p. IsEventOf (seen_by self.old) choice visit.at (answer_of p.member) (event_of p)) }
         ensures prepared { IfOk result (λ p. (k : Kept _) → slice_get (seen_by self.old).members visit.at ≡ Some k → IsPrepared O.Ordering k visit.input p.member) }
     {
         let at = visit.at;
@@ -168,15 +169,16 @@ impl<O: Ordering> World<O> {
 
     /// The event of a move at a member that answers so.
     fn event_for(&self, choice: Move, at: MemberId, answer: Option<Answer>) -> Event
-        requires { HasThreadOf choice (seen_by self.now).made }
-        ensures { result ≡ event_made (seen_by self.now) choice at answer }
+        requires thread { HasThreadOf choice (seen_by self.now).made }
+        requires answered { is_some answer ≡ is_call_move choice }
+        ensures { IsEventOf (seen_by self.now) choice at answer result }
     {
         match choice {
             Move::Call(thread) => Event::Call {
                 thread,
                 index: self.made[thread as usize],
                 member: at,
-                answer: answer.unwrap_or(Answer::Done),
+                answer: answer.unwrap(),
             },
             Move::Receive(from, to) => Event::Receive { from, to },
             Move::Release(at) => Event::Release { at },

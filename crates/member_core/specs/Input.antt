@@ -1,5 +1,5 @@
 -- What comes to a member.
-use Rattle.std.specs.Prelude.{ℕ, true, false, ◌≡◌, ◌<◌, IsSome, Option, Some, None}
+use Rattle.std.specs.Prelude.{ℕ, Bool, true, false, ◌≡◌, ◌<◌, IsSome, Option, Some, None}
 use Rattle.fifo_net.specs.Net.{Input as NetInput, Called, Took}
 use Rattle.order_trait.specs.declared.ordering.Ordering.{Ghosts}
 use Rattle.upd_base.specs.Body.{BodyFits, is_body}
@@ -55,7 +55,13 @@ MayHave G k (Call call) = MayCall G k call
 MayHave G k (Receive from frame) = MayTake k from frame
 MayHave G k Release = MayRelease k
 
--- what a member that has come to this answers to an input: a call alone is answered
+-- a call alone is answered
+abbrev pub is_call : Input → Bool
+is_call (Call call) = true
+is_call (Receive from frame) = false
+is_call Release = false
+
+-- what a member that has come to this answers to an input
 abbrev pub answer_to : {O : Type 0} (G : Ghosts O) → Kept O → Part → Input → Option Answer
 answer_to G k part (Call call) = Some (answer (group_of G k) k.me part call)
 answer_to G k part (Receive from frame) = None

@@ -3,7 +3,7 @@ use upd_base::{Entry, Frame, MemberId};
 
 /// What an event changes at a member.
 #[derive(Drop)]
-pub enum Change<O> {
+pub(crate) enum Change<O> {
     /// Nothing: the call is refused.
     Nothing,
     /// The member crashes.
@@ -25,7 +25,7 @@ pub enum Change<O> {
 
 /// A step of one module, with what the member makes of it.
 #[derive(Drop)]
-pub struct Progress<O> {
+pub(crate) struct Progress<O> {
     /// The version of the module.
     pub version: u16,
     /// The module after the step.

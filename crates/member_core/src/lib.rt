@@ -12,7 +12,6 @@ mod sent;
 mod start;
 mod steps;
 
-pub use change::{Change, Progress};
 pub use input::Input;
 pub use member::Member;
 pub use prepared::Prepared;

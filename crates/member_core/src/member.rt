@@ -68,7 +68,7 @@ impl<O: Ordering> Member<O> {
     ghost use Rattle.member_rules.specs.Stands.{Stands, part_of, Grows};
     ghost use Rattle.member_rules.specs.Steps.{SentFits, Enters, MayMake, entering, fresh_orders, releasing, suspicion};
     ghost use Rattle.member_core.specs.Member.{kept_by};
-    ghost use Rattle.member_core.specs.Input.{MAX_MADE, MayCall, MayTake, MayRelease, MayHave, input_of, answer_to, items_by};
+    ghost use Rattle.member_core.specs.Input.{MAX_MADE, MayCall, MayTake, MayRelease, MayHave, input_of, answer_to, is_call, items_by};
     ghost use Rattle.member_core.specs.Foretold.{Keeps, Reaches, IsSound, MakesTurn, given_by};
     ghost use Rattle.member_core.specs.Prepared.{advanced, changed, committed, answer_of, sent_of, HasRoom, HasRoomFor, IsReady};
 
@@ -106,6 +106,7 @@ impl<O: Ordering> Member<O> {
         ensures kept { kept_by self.new ≡ kept_by self.old }
         ensures ready { IfOk result (λ p. IsReady O.Ordering self.new p) }
         ensures fits { IfOk result (λ p. All (λ s. SentFits (kept_by self.old).members s) (sent_of p)) }
+        ensures answered { IfOk result (λ p. is_some (answer_of p) ≡ is_call input.now) }
         ensures answer { IfOk result (λ p. (past : List (NetInput Outer Frame)) → Stands O.Ordering (kept_by self.old) past → answer_of p ≡ answer_to O.Ordering (kept_by self.old) (part_of O.Ordering (kept_by self.old) past) input.now) }
         ensures sent { IfOk result (λ p. (past : List (NetInput Outer Frame)) → Stands O.Ordering (kept_by self.old) past → Grows (group_of O.Ordering (kept_by self.old)) (kept_by self.old).me past (input_of input.now) → sent_of p ≡ (turn_of (group_of O.Ordering (kept_by self.old)) (kept_by self.old).me (input_of input.now ∷ past)).frames) }
         ensures stands { IfOk result (λ p. (past : List (NetInput Outer Frame)) → Stands O.Ordering (kept_by self.old) past → Grows (group_of O.Ordering (kept_by self.old)) (kept_by self.old).me past (input_of input.now) → Stands O.Ordering (committed (kept_by self.old) p) (input_of input.now ∷ past)) }
@@ -136,6 +137,7 @@ impl<O: Ordering> Member<O> {
     fn foretell(&self, alloc: Global, input: &Input) -> Result<Prepared<O>, NoMemory>
         requires { MayHave O.Ordering (kept_by self.now) input.now }
         ensures sound { IfOk result (λ p. IsSound O.Ordering (kept_by self.now) (items_by input.now) p) }
+        ensures answered { IfOk result (λ p. is_some (answer_of p) ≡ is_call input.now) }
         ensures answer { IfOk result (λ p. (part : Part) → Keeps O.Ordering (kept_by self.now) part → answer_of p ≡ answer_to O.Ordering (kept_by self.now) part input.now) }
         ensures turn { IfOk result (λ p. (part : Part) → Keeps O.Ordering (kept_by self.now) part → MayMake (group_of O.Ordering (kept_by self.now)) (kept_by self.now).me part (input_of input.now) → MakesTurn O.Ordering (kept_by self.now) p (turn_after (group_of O.Ordering (kept_by self.now)) (kept_by self.now).me part (input_of input.now))) }
     {
@@ -150,6 +152,7 @@ impl<O: Ordering> Member<O> {
     fn on_call(&self, alloc: Global, call: &Call) -> Result<Prepared<O>, NoMemory>
         requires { MayCall O.Ordering (kept_by self.now) call.now }
         ensures sound { IfOk result (λ p. IsSound O.Ordering (kept_by self.now) 1 p) }
+        ensures answered { IfOk result (λ p. is_some (answer_of p) ≡ true) }
         ensures answer { IfOk result (λ p. (part : Part) → Keeps O.Ordering (kept_by self.now) part → answer_of p ≡ Some (answer (group_of O.Ordering (kept_by self.now)) (kept_by self.now).me part call.now)) }
         ensures turn { IfOk result (λ p. (part : Part) → Keeps O.Ordering (kept_by self.now) part → NextIsNew (group_of O.Ordering (kept_by self.now)) (kept_by self.now).me part → MakesTurn O.Ordering (kept_by self.now) p (called (group_of O.Ordering (kept_by self.now)) (kept_by self.now).me part call.now (given_by p))) }
     {
@@ -440,7 +443,7 @@ impl<O: Ordering> Member<O> {
         let input = Input::Call(call.copy()?);
         let prepared = self.prepare(alloc, &input)?;
         let answer = self.settle(prepared, out)?;
-        Ok(answer.unwrap_or(Answer::Done))
+        Ok(answer.unwrap())
     }
 
     /// Takes a frame from a member; what it sends is appended to `out`. After want of memory the member and `out` are as

@@ -11,14 +11,14 @@ use Rattle.group_world.proofs.fresh.fresh_members.Goals.{in-Some+in_ok-start+in_
 
 pub start-requires-clause-few : goal.start-requires-clause-few
 start-requires-clause-few g c κs within =
-    let f = (plan_facts c.args.plan.now c.requires.of_plan).few in
+    let f = (plan_facts c.args.plan.now c.keeps_limits.ensures).few in
     let e = c.members.ensures in
     omega (arith, f, e)
 
 pub start-requires-clause-kind_fits : goal.start-requires-clause-kind_fits
 start-requires-clause-kind_fits g c κs within =
     let P : ℕ → Type 0 = λ n. KindFits n c.first.result in
-    subst P (sym c.members.ensures) (subst (KindFits c.args.plan.now.members) (sym c.first.ensures) (plan_facts c.args.plan.now c.requires.of_plan).first_fits)
+    subst P (sym c.members.ensures) (subst (KindFits c.args.plan.now.members) (sym c.first.ensures) (plan_facts c.args.plan.now c.keeps_limits.ensures).first_fits)
 
 pub loop-number-preserved : goal.loop-number-preserved
 loop-number-preserved g c =
@@ -34,7 +34,7 @@ loop-number-preserved g c =
             stand = each_pushed (λ m. kept_by m) (λ i k. Stands g.O.Ordering k []) c.loop-number.members.items c.match-new.members.items w.in_ok-start.field-0 pushed i.stand d.stands;
           }
       | in_default w ↦
-          let few = (plan_facts c.args.plan.now c.requires.of_plan).few in
+          let few = (plan_facts c.args.plan.now c.keeps_limits.ensures).few in
           let seven = w.in_default.ensures.none in
           let e = c.members-number-end.ensures in
           let t = c.loop-number-test.true in

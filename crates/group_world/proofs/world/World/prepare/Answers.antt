@@ -1,12 +1,21 @@
 use Rattle.std.proofs.lemmas.Result.{IfOk-weaker}
 use Rattle.order_trait.specs.Here.{like_self}
 use Rattle.group_run.specs.Laws.{KeepsOrder}
+use Rattle.member_core.specs.Prepared.{answer_of}
 use Rattle.member_rules.specs.Kept.{rules_of}
 use Rattle.group_world.specs.Seen.{seen_by}
 use Rattle.group_world.proofs.Afterwards.{world_after}
 use Rattle.group_world.proofs.Standing.{stands_after}
-use Rattle.group_world.proofs.Making.{made_all, ready_all}
+use Rattle.group_world.proofs.Making.{call_given, made_all, move_is, ready_all}
 use Rattle.group_world.proofs.world.World.prepare.Goals as goal
+
+pub prepare_event-requires-clause-call : goal.prepare_event-requires-clause-call
+prepare_event-requires-clause-call g c κs live =
+    call_given c.args.plan.now (seen_by c.args.self.now) c.args.choice c.in_ok-visit.visit.at c.in_ok-visit.visit.input c.in_ok-visit.ensures.input
+
+pub returns-clause-event : goal.returns-clause-event
+returns-clause-event g c =
+    IfOk-weaker c.prepare_event.result _ _ (λ p is. move_is (seen_by c.args.self.now) c.args.choice c.in_ok-visit.visit.at (answer_of p.member) p.event is) c.prepare_event.ensures.event
 
 pub returns-clause-ready : goal.returns-clause-ready
 returns-clause-ready g c =

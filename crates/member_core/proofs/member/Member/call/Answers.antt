@@ -1,7 +1,6 @@
 use Rattle.std.proofs.Common.{◌∷◌, ◌++◌, ◌∙◌, sym, ap, subst}
-use Rattle.std.specs.Prelude.{unwrap_or}
+use Rattle.std.proofs.lemmas.Option.{same_Some}
 use Rattle.fifo_net.specs.Net.{Called}
-use Rattle.upd_base.specs.declared.answer.Answer.TheVariants.{Done}
 use Rattle.group_run.specs.Group.{Makes}
 use Rattle.group_run.specs.Answer.{answer}
 use Rattle.group_run.specs.Turn.{turn_of}
@@ -16,7 +15,7 @@ returns-clause-answer g c = λ past h.
     let G = g.O.Ordering in
     let k = kept_by c.args.self.now in
     let given = c.in_ok-answer.ensures.answer ∙ c.in_ok-prepared.ensures.answer past h in
-    c.unwrap_or.ensures ∙ ap (λ o. unwrap_or o Done) given ∙ ap (answer (group_of G k) k.me (part_of G k past)) c.in_ok-copy.ensures
+    same_Some _ _ (sym c.unwrap.ensures ∙ given) ∙ ap (answer (group_of G k) k.me (part_of G k past)) c.in_ok-copy.ensures
 
 pub returns-clause-stands : goal.returns-clause-stands
 returns-clause-stands g c = λ past h grows.
