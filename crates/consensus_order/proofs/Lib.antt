@@ -1,0 +1,3 @@
+pub mod Broadcasts
+pub mod Heard
+pub mod Starting

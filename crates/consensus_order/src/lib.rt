@@ -1,0 +1,6 @@
+//! The ordering module of consensus: instances in order, each deciding a batch of items.
+#![tactic(auto)]
+
+mod consensus;
+
+pub use consensus::ConsensusOrder;
