@@ -1,16 +1,13 @@
 -- What was received and begun, as the reliable broadcast keeps it.
-use Rattle.std.proofs.Common.{ℕ, ◌≡◌, Bool, true, false, cond, List, [], ◌∷◌, ◌++◌, refl, sym, ap, ◌∙◌, ◌||◌, append-nil}
-use Rattle.std.specs.List.{list_any}
+use Rattle.std.proofs.Common.{◌≡◌, Bool, true, false, cond, [], ◌∷◌, refl, sym, ap, ◌∙◌, ◌||◌, append-nil}
 use Rattle.std.specs.BTreeMap.{is_at}
 use Rattle.std.proofs.lemmas.List.Folds.{list_any-append}
 use Rattle.fifo_net.specs.Net.{Called, Took}
 use Rattle.upd_base.specs.Item.{id_of, has_id}
 use Rattle.upd_base.specs.declared.item.Item.{Item}
-use Rattle.upd_base.specs.declared.body.Body.{Body}
 use Rattle.upd_base.specs.declared.body.Body.TheVariants.{Ask, Ord, Req, Ack, Rb, Est, Prop, Reply, Next, Decide}
 use Rattle.order_trait.specs.Runs.{Broadcast, Suspect, Trust, Inputs}
 use Rattle.reliable_bcast.specs.Rb.{was_received, was_started}
-use Rattle.instance_rules.specs.Say.{Items}
 use Rattle.consensus_rules.specs.Items.{knows, received, begun}
 use Rattle.waiting_items.specs.Ids.{id_cmp}
 use Rattle.waiting_items.proofs.Ids.{is_at_id}

@@ -1,10 +1,10 @@
 -- What a module stands for between the receipt of a body and the start of an instance.
-use Rattle.std.proofs.Common.{ℕ, ◌^◌, ◌≡◌, ◌≢◌, ◌<◌, ◌≤◌, ◌⊎◌, inl, inr, eqb, leb, Bool, true, false, cond, not, List, [], ◌∷◌, ◌++◌, length, Option, Some, None, refl, sym, ap, ◌∙◌, subst, arith, append-nil, append_assoc, ◌||◌, ◌&&◌}
+use Rattle.std.proofs.Common.{ℕ, ◌^◌, ◌≡◌, ◌≢◌, ◌<◌, ◌≤◌, ◌⊎◌, inl, inr, eqb, Bool, true, false, cond, not, List, [], ◌∷◌, ◌++◌, Option, Some, None, refl, sym, ap, ◌∙◌, subst, arith, append-nil, ◌||◌}
 use Rattle.std.specs.Option.{is_some}
 use Rattle.std.specs.Ordering.{nat_cmp}
 use Rattle.std.specs.BTreeMap.{get}
-use Rattle.std.proofs.lemmas.Bool.{cases_Bool, cases_eq, cond-true, cond-false, eq-eqb, ne_eqb, or_left}
-use Rattle.fifo_net.specs.Net.{Input, Called, Took}
+use Rattle.std.proofs.lemmas.Bool.{cases_Bool, cases_eq, cond-true, cond-false, eq-eqb, ne_eqb}
+use Rattle.fifo_net.specs.Net.{Input, Took}
 use Rattle.upd_base.specs.declared.item.Item.{Item}
 use Rattle.upd_base.specs.declared.body.Body.{Body}
 use Rattle.upd_base.specs.declared.body.Body.TheVariants.{Ask, Ord, Req, Ack, Rb, Est, Prop, Reply, Next, Decide}
@@ -32,7 +32,7 @@ use Rattle.waiting_items.specs.Ids.{id_cmp}
 use Rattle.batch_delivery.specs.Delivery as deliveries
 use Rattle.instance_table.specs.Table as tables
 use Rattle.consensus_order.specs.declared.consensus.ConsensusOrder.{ConsensusOrder}
-use Rattle.consensus_order.specs.ConsensusOrder.{StandsFor, Heard, Ready, events_of, heard_by, suspects}
+use Rattle.consensus_order.specs.ConsensusOrder.{StandsFor, Heard, events_of, heard_by, suspects}
 
 -- After an Rb: the item was received before, or is received now.
 pub item_heard : (m u : ConsensusOrder) (from : ℕ) (item : Item) (past : Inputs) → rb.StandsFor id_cmp u.broadcasts (events_of (Took from (Rb item) ∷ past))
@@ -157,9 +157,11 @@ decided_heard m from k body past b low named is s =
     out_of_range : Names k from body past → (j : ℕ) → 2 ^ 64 ≤ j → (o : Option Items) → decision j (listed k o) ≡ None
     out_of_range n j le None = refl
     out_of_range n j le (Some c) = cond-false (eqb k j) (Some c) None (ne_eqb k j (λ e. omega (arith, e, le, low)))
+
     at_other : (j : ℕ) → j ≢ k → (o : Option Items) → decision j (listed k o) ≡ None
     at_other j ne None = refl
     at_other j ne (Some c) = cond-false (eqb k j) (Some c) None (ne_eqb k j (λ e. ne (sym e)))
+
     unchanged : Names k from body past → (j : ℕ) → decision j (decisions past ++ decide_in body) ≡ decision j (decisions past)
     unchanged n j =
         decision_or j (decisions past) (decide_in body)
@@ -245,11 +247,14 @@ first_begun past item key pass is e =
   where
     no_first : (b : Bool) → Again ≡ First b → ⊥
     no_first b e = absurd cc
+
     same : (a b : Bool) → First a ≡ First b → a ≡ b
     same a b e = cc
+
     twice : (b : Bool) → b ≡ not (not b)
     twice true = refl
     twice false = refl
+
     told : (r s : Bool) → cond r Again (First (not s)) ≡ First pass → s ≡ not pass
     told true s e = absurd (no_first pass e)
     told false s e = twice s ∙ ap not (same (not s) pass e)

@@ -1,6 +1,5 @@
 -- For which lists of inputs a module stands.
-use Rattle.std.specs.Prelude.{ℕ, Bool, false, ◌==◌, ◌≡◌, ◌≤◌, ◌||◌, ◌&&◌, not, List, [], ◌∷◌, ◌++◌}
-use Rattle.std.specs.List.{list_any}
+use Rattle.std.specs.Prelude.{ℕ, Bool, false, ◌==◌, ◌||◌, ◌&&◌, not, List, [], ◌∷◌, ◌++◌}
 use Rattle.fifo_net.specs.Net.{Called, Took}
 use Rattle.upd_base.specs.Item.{id_of}
 use Rattle.upd_base.specs.declared.kind.Kind.TheVariants.{Consensus}

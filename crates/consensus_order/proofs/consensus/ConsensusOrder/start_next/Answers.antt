@@ -1,10 +1,8 @@
-use Rattle.std.proofs.Common.{ℕ, ◌≡◌, ◌≤◌, ◌∷◌, ◌++◌, Some, None, refl, ap, sym, subst, ◌∙◌, arith}
-use Rattle.upd_base.specs.declared.body.Body.{Body}
+use Rattle.std.proofs.Common.{ℕ, ◌≡◌, ◌∷◌, ◌++◌, None, ap, sym, subst, ◌∙◌, arith}
 use Rattle.fifo_net.specs.Net.{Took}
-use Rattle.order_trait.specs.Runs.{Inputs}
 use Rattle.consensus_rules.specs.Items.{received}
-use Rattle.consensus_rules.specs.Delivered.{decisions, next}
-use Rattle.consensus_rules.specs.Instances.{last_instance, turns_of}
+use Rattle.consensus_rules.specs.Delivered.{decisions}
+use Rattle.consensus_rules.specs.Instances.{turns_of}
 use Rattle.consensus_rules.specs.Waiting.{in_order, waiting}
 use Rattle.waiting_items.specs.Ids.{first_of}
 use Rattle.instance_table.specs.Table as tables

@@ -1,14 +1,9 @@
-use Rattle.std.proofs.Common.{ℕ, Bool, ◌≡◌, ◌⊎◌, inl, inr, true, false, cond, not, refl, ap, sym, subst, ◌∙◌, ◌∷◌, ◌++◌, [], append-nil}
-use Rattle.upd_base.specs.Item.{id_of}
+use Rattle.std.proofs.Common.{ℕ, Bool, ◌≡◌, inl, inr, true, false, not, refl, ap, sym, subst, ◌∙◌, ◌∷◌, ◌++◌, [], append-nil}
 use Rattle.upd_base.specs.declared.item.Item.{Item}
-use Rattle.upd_base.specs.declared.body.Body.{Body}
 use Rattle.upd_base.specs.declared.body.Body.TheVariants.{Rb}
-use Rattle.fifo_net.specs.Net.{Took}
-use Rattle.order_trait.specs.Runs.{Inputs}
 use Rattle.order_trait.specs.Outbox.{to_all}
 use Rattle.reliable_bcast.specs.Rb as rb
 use Rattle.reliable_bcast.specs.Rb.{was_received, Received, Event}
-use Rattle.instance_rules.proofs.Votes.{one}
 use Rattle.reliable_bcast.specs.declared.rb.Seen.TheVariants.{First}
 use Rattle.consensus_rules.specs.Items.{begun, knows, received}
 use Rattle.consensus_rules.specs.Delivered.{decisions}
@@ -16,8 +11,7 @@ use Rattle.consensus_rules.specs.Consensus.{passes_rb}
 use Rattle.batch_delivery.specs.Delivery as deliveries
 use Rattle.instance_table.specs.Table as tables
 use Rattle.waiting_items.specs.Ids.{id_cmp}
-use Rattle.consensus_order.specs.ConsensusOrder.{Heard, StandsFor, events_of}
-use Rattle.consensus_order.proofs.Broadcasts.{received_are}
+use Rattle.consensus_order.specs.ConsensusOrder.{events_of}
 use Rattle.consensus_order.proofs.Heard.{again_received, first_begun, first_received, is_rb, passes_all, passes_none, rb_heard, received_before, received_now}
 use Rattle.consensus_order.proofs.consensus.ConsensusOrder.take_item.Goals as goal
 use Rattle.consensus_order.proofs.consensus.ConsensusOrder.take_item.Goals.{then-pass_on+in_ok-push_all, else-pass_on}

@@ -1,4 +1,4 @@
-use Rattle.std.proofs.Common.{ℕ, ◌≡◌, ◌≢◌, ◌∷◌, ◌++◌, [], None, Some, true, refl, ap, sym, subst, ◌∙◌, append-nil}
+use Rattle.std.proofs.Common.{ℕ, ◌≡◌, ◌∷◌, ◌++◌, [], None, Some, refl, ap, sym, subst, ◌∙◌, append-nil}
 use Rattle.instance_rules.specs.Say.{Items}
 use Rattle.consensus_rules.specs.Delivered.{decision, decisions}
 use Rattle.consensus_rules.specs.Items.{received}
