@@ -1,3 +1,4 @@
 pub mod Broadcasts
 pub mod Heard
 pub mod Starting
+pub mod Calls

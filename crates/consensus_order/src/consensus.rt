@@ -10,13 +10,12 @@ ghost use Rattle.order_trait.specs.Runs.{Inputs};
 ghost use Rattle.consensus_rules.specs.Delivered.{next};
 ghost use Rattle.consensus_rules.specs.Instances.{number_in};
 ghost use Rattle.consensus_rules.specs.Consensus as rules;
-ghost use Rattle.consensus_rules.specs.Consensus.{delivers_of, is_consensus, sends_of};
 ghost use Rattle.instance_table.specs.Table as tables;
 ghost use Rattle.batch_delivery.specs.Delivery as deliveries;
 
 use batch_delivery::Delivery;
 use instance_table::Instances;
-use order_trait::{Ordering, Outbox};
+use order_trait::Outbox;
 use reliable_bcast::{Rb, Seen};
 use std::alloc::Global;
 use upd_base::{Body, Item, Kind, MemberId, NoMemory};
@@ -29,21 +28,21 @@ use upd_base::{Body, Item, Kind, MemberId, NoMemory};
 #[derive(Drop)]
 pub struct ConsensusOrder {
     /// The broadcasts of items, by origin and number.
-    broadcasts: Rb<(u8, u32)>,
-    delivery: Delivery,
-    instances: Instances,
+    pub(crate) broadcasts: Rb<(u8, u32)>,
+    pub(crate) delivery: Delivery,
+    pub(crate) instances: Instances,
     ghost same_members: { deliveries.members_of delivery ≡ tables.members_of instances },
 }
 
 /// The origin and the number of an item.
-fn id(item: &Item) -> (u8, u32)
+pub(crate) fn id(item: &Item) -> (u8, u32)
     ensures { result ≡ id_of item.now }
 {
     (item.origin().get(), item.number())
 }
 
 /// The instance that a body names.
-fn instance_of(body: &Body) -> Option<u64>
+pub(crate) fn instance_of(body: &Body) -> Option<u64>
     ensures { option_to_list result ≡ number_in body.now }
 {
     match body {
@@ -60,7 +59,7 @@ impl ConsensusOrder {
     ghost use Rattle.consensus_order.specs.ConsensusOrder.{Heard, Ready, StandsFor, heard_by, seat_of};
 
     /// An Rb: the first of its item is passed on, unless this member has begun it, and is received.
-    fn take_item(
+    pub(crate) fn take_item(
         &mut self,
         alloc: Global,
         item: &Item,
@@ -85,7 +84,7 @@ impl ConsensusOrder {
     }
 
     /// A body of an instance; a decided one has no more to say.
-    fn take_say(
+    pub(crate) fn take_say(
         &mut self,
         alloc: Global,
         number: u64,
@@ -115,7 +114,7 @@ impl ConsensusOrder {
     }
 
     /// Starts the instance that is next, where the member takes no part in it and something waits.
-    fn start_next(&mut self, alloc: Global, out: &mut Outbox) -> Result<(), NoMemory>
+    pub(crate) fn start_next(&mut self, alloc: Global, out: &mut Outbox) -> Result<(), NoMemory>
         ensures seat { seat_of self.new ≡ seat_of self.old }
         ensures fits_out { OnOk result (Grows (SendFits (seat_of self.old).members) out.old out.new) }
         ensures stands { OnOk result ((from : ℕ) (body : Body) (past : Inputs) → Ready self.old from body past → StandsFor self.new (Took from body ∷ past)) }

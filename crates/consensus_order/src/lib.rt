@@ -2,5 +2,6 @@
 #![tactic(auto)]
 
 mod consensus;
+mod ordering;
 
 pub use consensus::ConsensusOrder;
