@@ -163,6 +163,7 @@ impl Delivery {
 
     /// The number of the instance that is next; None exactly where a u64 does not hold it.
     pub fn next(&self) -> Option<u64>
+        ensures counts { IfSome result (λ k. 1 ≤ k) }
         ensures some { IfSome result (λ k. (items : Items) (ds : List (ℕ × Items)) → StandsFor self.now items ds → k ≡ 1 + length (batches ds)) }
         ensures none { IfNone result ((items : Items) (ds : List (ℕ × Items)) → StandsFor self.now items ds → last_instance < 1 + length (batches ds)) }
     {

@@ -1,0 +1,4 @@
+pub mod Broadcasts
+pub mod Heard
+pub mod Starting
+pub mod Calls
