@@ -20,7 +20,7 @@ use Rattle.upd_frame.specs.declared.progress.Stage.{Stage}
 use Rattle.upd_frame.specs.declared.progress.Stage.TheVariants.{Start, Within}
 use Rattle.upd_frame.specs.Reader.{Fails, Reader, place, done, go_on, ◌>>=◌, only, byte, number, text}
 use Rattle.upd_frame.specs.Reading.{is_count, is_length, is_version, any, tag_of, flag_of, comes_after, member, kind, message, switch, item, items, batch, count, body, frame, front}
-use Rattle.upd_frame.specs.Progress.{skip, head_of, head, no_payload, item_head, to_come, Leaves, Passes, weight, Steps}
+use Rattle.upd_frame.specs.Progress.{skip, head_of, head, no_payload, item_head, to_come, Leaves, Passes, weight, Steps, EndsAt}
 use Rattle.upd_frame.proofs.Fields.{go_on_ok}
 use Rattle.upd_frame.proofs.Text.{byte_good, text_bad}
 use Rattle.upd_frame.proofs.Ahead.{Taken, Ahead, ahead_done, ahead_bind, ahead_if, ahead_byte, ahead_number, ahead_member, ahead_kind, ahead_count}
@@ -222,7 +222,27 @@ skip_fails (BadTag n) (Ok x) h = absurd cc
 skip_fails (BadNumber n) (Ok x) h = absurd cc
 skip_fails (BadText n) (Ok x) h = absurd cc
 
+-- what is to come there is the frame without its value
+stands_here : (bytes : List ℕ) (at : ℕ) (stage : Stage) (left : List ℕ) → Stands bytes at stage left → to_come stage (length bytes) left ≡ skip frame (length bytes) bytes
+stands_here bytes at stage left s = ap (to_come stage (length bytes)) s.left_is ∙ sym (s.leaves (length bytes) (drop at bytes)) ∙ ap (skip frame (length bytes)) (take-append-drop at bytes)
+
 pub stands_fails : (e : FrameFault) (bytes : List ℕ) (at : ℕ) (stage : Stage) (left : List ℕ) → Stands bytes at stage left → Fails e (to_come stage (length bytes) left) → Fails e (front bytes)
-stands_fails e bytes at stage left s h =
-    let here : to_come stage (length bytes) left ≡ skip frame (length bytes) bytes = ap (to_come stage (length bytes)) s.left_is ∙ sym (s.leaves (length bytes) (drop at bytes)) ∙ ap (skip frame (length bytes)) (take-append-drop at bytes) in
-    skip_fails e (front bytes) (subst (Fails e) here h)
+stands_fails e bytes at stage left s h = skip_fails e (front bytes) (subst (Fails e) (stands_here bytes at stage left s) h)
+
+abbrev left_by : Result (ℕ × List ℕ) FrameFault → List ℕ
+left_by (Ok x) = x.1
+left_by (Err d) = []
+
+skip_reads : (r : Result (Frame × List ℕ) FrameFault) (rest : List ℕ) → go_on r drops ≡ Ok (0, rest) → (f : Frame) × (r ≡ Ok (f, rest))
+skip_reads (Ok x) rest h = (x.0, ap (λ (r : Result (ℕ × List ℕ) FrameFault). Ok (x.0, left_by r)) h)
+skip_reads (Err d) rest h = absurd cc
+
+pub stands_whole : (bytes : List ℕ) (at : ℕ) (stage : Stage) (left : List ℕ) → Stands bytes at stage left → to_come stage (length bytes) left ≡ Ok (0, left) → EndsAt bytes at
+stands_whole bytes at stage left s h =
+    let read : (f : Frame) × (front bytes ≡ Ok (f, left)) = skip_reads (front bytes) left (sym (stands_here bytes at stage left s) ∙ h) in
+    (read.0, read.1 ∙ ap (λ (l : List ℕ). Ok (read.0, l)) s.left_is)
+
+-- where no byte of a payload and no item is to come, nothing is
+pub none_to_come : (size c : ℕ) (before : Option (ℕ × ℕ)) (all : ℕ) (left : List ℕ) → size ≡ 0 → c ≡ 0 → to_come (Within size c before) all left ≡ Ok (0, left)
+unfolding text items
+none_to_come size c before all left no_byte no_item = rw (no_byte, no_item) refl

@@ -1,6 +1,7 @@
 -- How far the reading of a frame has come, where its bytes come piece by piece.
-use Rattle.std.specs.Prelude.{◌≡◌, ℕ, zero, suc, ◌+◌, ◌*◌, ◌<◌, Bool, true, false, List, [], ◌∷◌, ◌++◌, length, if◌then◌else◌, Option, Some, None, Result, Ok, Err, nat_lt}
+use Rattle.std.specs.Prelude.{◌≡◌, ℕ, zero, suc, ◌+◌, ◌*◌, ◌<◌, Bool, true, false, List, [], ◌∷◌, ◌++◌, length, drop, if◌then◌else◌, Option, Some, None, Result, Ok, Err, nat_lt}
 use Rattle.std.specs.Int.{w16, w32, w64}
+use Rattle.upd_base.specs.declared.frame.Frame.{Frame}
 use Rattle.upd_frame.specs.declared.fault.FrameFault.{FrameFault}
 use Rattle.upd_frame.specs.declared.fault.FrameFault.TheVariants.{Short, BadTag, BadNumber, BadText}
 use Rattle.upd_frame.specs.declared.tag.Tag.{Tag}
@@ -8,7 +9,7 @@ use Rattle.upd_frame.specs.declared.tag.Tag.TheVariants as tags
 use Rattle.upd_frame.specs.declared.progress.Stage.{Stage}
 use Rattle.upd_frame.specs.declared.progress.Stage.TheVariants.{Start, Within}
 use Rattle.upd_frame.specs.Reader.{Fails, Reader, done, go_on, ◌>>=◌, only, byte, number, text}
-use Rattle.upd_frame.specs.Reading.{is_count, is_length, is_version, any, tag_of, flag_of, comes_after, member, kind, items, count, frame}
+use Rattle.upd_frame.specs.Reading.{is_count, is_length, is_version, any, tag_of, flag_of, comes_after, member, kind, items, count, frame, front}
 
 -- what is read, without its value
 abbrev pub skip : {A : Type 0} → Reader A → Reader ℕ
@@ -94,5 +95,9 @@ weight (Within size count before) = count * 300 + size
 
 abbrev pub Steps : Stage → ℕ → List ℕ → List ℕ → Result (Option Stage) FrameFault → Type 0
 Steps old all left rest (Ok (Some new)) = Passes old left new rest × (weight new < weight old)
-Steps old all left rest (Ok None) = Unit {0}
+Steps old all left rest (Ok None) = (rest ≡ left) × (to_come old all left ≡ Ok (0, left))
 Steps old all left rest (Err fault) = Fails fault (to_come old all left)
+
+-- a frame stands whole at the front of these bytes, and ends at this place
+abbrev pub EndsAt : List ℕ → ℕ → Type 0
+EndsAt bytes at = (f : Frame) × (front bytes ≡ Ok (f, drop at bytes))

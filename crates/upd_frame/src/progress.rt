@@ -5,7 +5,7 @@ ghost use Rattle.upd_frame.specs.Reader.{Fails, Gives, place, byte, number, text
 ghost use Rattle.upd_frame.specs.Reading.{front, frame};
 ghost use Rattle.upd_frame.specs.Laws.{IsOfFront};
 ghost use Rattle.upd_frame.specs.Reading.{is_length};
-ghost use Rattle.upd_frame.specs.Progress.{head_of, head, no_payload, item_head, to_come, Leaves, Steps};
+ghost use Rattle.upd_frame.specs.Progress.{head_of, head, no_payload, item_head, to_come, EndsAt, Leaves, Steps};
 
 use crate::fault::FrameFault;
 use crate::reading::{
@@ -195,13 +195,15 @@ fn step(all: usize, stage: Stage, left: &mut &[u8]) -> Result<Option<Stage>, Fra
     }
 }
 
-/// Reads on in the bytes of a stream, where reading its first frame has come to a place and a stage. An error is the
-/// first fault of the bytes, or that they are cut short; the place and the stage are then as far as reading came.
+/// Reads on in the bytes of a stream, where reading its first frame has come to a place and a stage. It is Ok exactly
+/// where the frame is whole, and the place is then its end. An error is the first fault of the bytes, or that they are cut
+/// short; the place and the stage are then as far as reading came.
 pub fn read_on(bytes: &[u8], at: &mut usize, stage: &mut Stage) -> Result<(), FrameFault>
     requires within { at.old ≤ length bytes.now }
     requires leaves { Leaves (take at.old bytes.now) stage.old }
     ensures within { at.new ≤ length bytes.now }
     ensures leaves { Leaves (take at.new bytes.now) stage.new }
+    ensures whole { OnOk result (EndsAt bytes.now at.new) }
     ensures fault { IfErr result (λ fault. Fails fault (front bytes.now)) }
     ensures kind { IfErr result IsOfFront }
 {
