@@ -1,21 +1,21 @@
--- Where no choice is open and no thread has a call, a run is settled.
-use Rattle.std.proofs.Common.{ℕ, zero, suc, ◌≡◌, ◌<◌, ◌≤◌, ◌==◌, ◌⊎◌, inl, inr, Bool, true, false, not, List, [], ◌∷◌, ◌++◌, length, map, refl, sym, ◌∙◌, ap, subst, arith, Option, Some, None, filter, if◌then◌else◌}
-use Rattle.std.specs.Prelude.{IsSome, is_some, slice_get, ◌&&◌, Contains}
+-- Where no choice is open, a group is at rest; where no thread has a call either, the run is settled.
+use Rattle.std.proofs.Common.{ℕ, zero, suc, ◌≡◌, ◌<◌, ◌≤◌, ◌==◌, inl, inr, true, false, List, [], ◌∷◌, ◌++◌, length, map, refl, sym, ◌∙◌, ap, arith, Option, Some, None}
+use Rattle.std.specs.Prelude.{IsSome, is_some, slice_get, Contains}
 use Rattle.std.specs.List.{flat_map}
 use Rattle.std.proofs.lemmas.Bool.{cases_lt, eqb-true, eq-eqb}
 use Rattle.std.proofs.lemmas.List.Elements.{Contains-append_cases, Contains-append_left, Contains-append_right}
 use Rattle.upd_base.specs.Plan.{Planned, planned, step_in}
-use Rattle.upd_base.specs.declared.frame.Frame.{Frame}
 use Rattle.group_run.specs.Group.{Rules}
 use Rattle.group_run.specs.Held.{first_ready}
 use Rattle.group_run.specs.Part.{below}
-use Rattle.group_run.specs.Run.{Events, IsReceipt, IsRelease, calls_made, crashed_in, held_in, next_frame, version_in}
+use Rattle.group_run.specs.Run.{Events, calls_made, held_in, next_frame, version_in}
 use Rattle.group_run.specs.Settled.{IsSettled}
-use Rattle.group_run.proofs.Lists.{tested, nothing, only, filter_contains}
+use Rattle.group_run.proofs.Lists.{tested, nothing, only}
 use Rattle.group_world.specs.declared.moves.Move.{Move}
 use Rattle.group_world.specs.declared.moves.Move.TheVariants.{Call, Receive, Release}
 use Rattle.run_journal.specs.Causes.{next_call, open_frame}
 use Rattle.rehearsal.specs.Choices.{choices, is_open, lowest_of, receipts_from, waiting_thread}
+use Rattle.rehearsal.specs.FullAtRest.{IsAtRest}
 
 -- What the list of choices holds -------------------------------------------------------------------------------
 
@@ -84,14 +84,13 @@ no_call plan past none t = elim (cases_lt t (length plan.threads)) [
   | inr ge ↦ ap (λ o. step_in o (calls_made t past)) (beyond plan.threads t ge)
 ]
 
--- A run at rest ------------------------------------------------------------------------------------------------
+-- A group at rest ----------------------------------------------------------------------------------------------
 
 is_there : {A : Type 0} (o : Option A) → IsSome o → is_some o ≡ true
 is_there o h = h
 
-pub settled_of : (rules : Rules) (plan : Planned) (past : Events) → waiting_thread plan past ≡ None → ((c : Move) → Contains (choices plan) c → is_open rules plan past c ≡ false) → IsSettled rules plan past
-settled_of rules plan past none closed = record {
-  calls = no_call plan past none;
+pub at_rest : (rules : Rules) (plan : Planned) (past : Events) → ((c : Move) → Contains (choices plan) c → is_open rules plan past c ≡ false) → IsAtRest rules plan past
+at_rest rules plan past closed = record {
   receipts = λ from to r.
       let shut : is_some (open_frame rules plan past from to) ≡ false = closed (Receive from to) (receipt_there plan from to r.from_member r.to_member) in
       let same : open_frame rules plan past from to ≡ next_frame rules plan past from to = rw r.up refl in
@@ -102,3 +101,8 @@ settled_of rules plan past none closed = record {
       let there : is_open rules plan past (Release at) ≡ true = rw (r.up, is_there (first_ready (version_in rules plan past at) (held_in rules plan past at)) r.ready) refl in
       cc;
 }
+
+pub settled_of : (rules : Rules) (plan : Planned) (past : Events) → waiting_thread plan past ≡ None → ((c : Move) → Contains (choices plan) c → is_open rules plan past c ≡ false) → IsSettled rules plan past
+settled_of rules plan past none closed =
+    let rest = at_rest rules plan past closed in
+    record { calls = no_call plan past none; receipts = rest.receipts; releases = rest.releases }

@@ -1,7 +1,7 @@
 -- The events of the seeded schedule.
-use Rattle.std.proofs.Common.{ℕ, zero, suc, ◌≡◌, ◌≢◌, ◌<◌, ◌≤◌, ◌+◌, ◌%◌, ◌==◌, ◌⊎◌, inl, inr, Bool, true, false, List, [], ◌∷◌, ◌++◌, length, refl, sym, ◌∙◌, ap, subst, arith, Option, Some, None, filter, if◌then◌else◌}
-use Rattle.std.specs.Prelude.{is_some, slice_get, slice_index_or, Contains, Result, Ok, Err, OnOk, OnErr}
-use Rattle.std.proofs.lemmas.Bool.{eqb-true, eq-eqb, cases_lt}
+use Rattle.std.proofs.Common.{ℕ, zero, suc, ◌≡◌, ◌<◌, ◌≤◌, ◌+◌, ◌%◌, ◌==◌, inl, inr, true, false, List, [], ◌∷◌, length, refl, sym, ◌∙◌, ap, subst, arith, Option, Some, None, filter}
+use Rattle.std.specs.Prelude.{slice_get, slice_index_or, Contains, Result, Ok, Err, OnOk}
+use Rattle.std.proofs.lemmas.Bool.{eqb-true}
 use Rattle.std.proofs.lemmas.Option.{slice_get-get_or}
 use Rattle.std.proofs.lemmas.List.Elements.{Contains-append_right}
 use Rattle.std.proofs.Math.Nat.{mod-lt}
@@ -14,11 +14,11 @@ use Rattle.group_run.specs.Run.{Events}
 use Rattle.group_run.specs.Settled.{IsSettled}
 use Rattle.group_run.proofs.Lists.{tested, eqb_self, filter_contains, contains_filter, nothing}
 use Rattle.group_world.specs.declared.moves.Move.{Move}
-use Rattle.rehearsal.specs.Choices.{IsChoice, choices, has_room, is_open, made, waiting_thread}
+use Rattle.rehearsal.specs.Choices.{IsChoice, choices, has_room, is_open, made}
 use Rattle.rehearsal.specs.Rounds.{forced_call, visited}
-use Rattle.rehearsal.specs.Seeded.{Drawn, chosen, drawn, draws, open_choices}
+use Rattle.rehearsal.specs.Seeded.{Drawn, drawn, draws, open_choices}
 use Rattle.rehearsal.specs.Ends.{IsOnTheWay}
-use Rattle.rehearsal.proofs.Visits.{full_of, made_way, one_made, room_of, visited_open, way_length, way_self, way_trans}
+use Rattle.rehearsal.proofs.Visits.{made_way, one_made, visited_open, way_length, way_self, way_trans}
 use Rattle.rehearsal.proofs.AllChoices.{each_fits}
 use Rattle.rehearsal.proofs.AtRest.{settled_of}
 use Rattle.rehearsal.proofs.TurnLaws.{forced_call_way, forced_same, none_left}

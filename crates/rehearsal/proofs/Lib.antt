@@ -5,3 +5,4 @@ mod AllChoices
 mod TurnLaws
 mod DrawLaws
 mod EndLaws
+mod FullLaws

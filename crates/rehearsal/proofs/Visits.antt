@@ -1,6 +1,6 @@
 -- What a visit makes, and when nothing is left.
-use Rattle.std.proofs.Common.{ℕ, zero, suc, ◌≡◌, ◌≢◌, ◌<◌, ◌≤◌, ◌+◌, ◌⊎◌, inl, inr, Bool, true, false, not, List, [], ◌∷◌, ◌++◌, length, refl, sym, ◌∙◌, ap, subst, arith, Option, Some, None, if◌then◌else◌, append_assoc, length-append}
-use Rattle.std.specs.Prelude.{Result, Ok, Err, OnErr, OnOk, is_some, nat_lt, ◌&&◌, All, Contains}
+use Rattle.std.proofs.Common.{ℕ, suc, ◌≡◌, ◌<◌, ◌≤◌, ◌+◌, inl, inr, true, false, not, List, [], ◌∷◌, ◌++◌, length, refl, sym, ◌∙◌, ap, subst, arith, Option, Some, None, append_assoc, length-append, drop, drop-cons, add-one, get_or}
+use Rattle.std.specs.Prelude.{Result, Ok, Err, OnErr, OnOk, is_some, ◌&&◌, Contains}
 use Rattle.upd_base.specs.Plan.{Planned, bound}
 use Rattle.upd_base.specs.declared.call.Step.{Step as PlannedStep}
 use Rattle.group_run.specs.Group.{Rules}
@@ -63,6 +63,11 @@ way_self past = ([], refl)
 pub way_trans : (a b c : Events) → IsOnTheWay a b → IsOnTheWay b c → IsOnTheWay a c
 way_trans a b c (xs, p) (ys, q) = (ys ++ xs, q ∙ ap (λ zs. ys ++ zs) p ∙ sym (append_assoc ys xs a))
 
+-- what was made is on the way, or at an error nothing was
+pub either_way : {E : Type 0} (old new made : Events) (r : Result (Unit {0}) E) → IsOnTheWay old made → OnOk r (new ≡ made) → OnErr r (new ≡ old) → IsOnTheWay old new
+either_way old new made (Ok x) way ok err = subst (IsOnTheWay old) (sym ok) way
+either_way old new made (Err e) way ok err = subst (IsOnTheWay old) (sym err) (way_self old)
+
 called_way : (rules : Rules) (plan : Planned) (past : Events) (thread : ℕ) (o : Option PlannedStep) → IsOnTheWay past (called rules plan past thread o)
 called_way rules plan past thread None = way_self past
 called_way rules plan past thread (Some s) = (_ ∷ [], refl)
@@ -81,6 +86,14 @@ visited_way rules plan past c = elim (tested (has_room plan past && is_open rule
 pub all_way : (rules : Rules) (plan : Planned) (past : Events) (cs : List Move) → IsOnTheWay past (all_visited rules plan past cs)
 all_way rules plan past [] = way_self past
 all_way rules plan past (c ∷ cs) = way_trans past (visited rules plan past c) (all_visited rules plan (visited rules plan past c) cs) (visited_way rules plan past c) (all_way rules plan (visited rules plan past c) cs)
+
+-- what is left to be visited, once the next choice was
+pub visited_next : (rules : Rules) (plan other : Planned) (past new whole : Events) (cs : List Move) (i : ℕ) (c : Move) → i < length cs → c ≡ get_or cs i c → other ≡ plan
+    → new ≡ visited rules other past c → all_visited rules plan past (drop i cs) ≡ whole → all_visited rules plan new (drop (i + 1) cs) ≡ whole
+visited_next rules plan other past new whole cs i c lt is same made rest =
+    let front : drop i cs ≡ c ∷ drop (i + 1) cs = rw (add-one) (drop-cons cs i c lt ∙ ap (λ x. x ∷ drop (suc i) cs) (sym is)) in
+    ap (λ p. all_visited rules plan p (drop (i + 1) cs)) (made ∙ ap (λ q. visited rules q past c) same)
+    ∙ sym (ap (all_visited rules plan past) front) ∙ rest
 
 -- Nothing is left -----------------------------------------------------------------------------------------
 

@@ -1,8 +1,7 @@
 -- The lowest thread that has a call.
-use Rattle.std.proofs.Common.{ℕ, zero, suc, ◌≡◌, ◌<◌, ◌≤◌, ◌+◌, Bool, true, false, List, [], ◌∷◌, ◌++◌, length, refl, sym, ◌∙◌, ap, arith, Option, Some, None, if◌then◌else◌, add-one, ◌⊎◌, inl, inr}
+use Rattle.std.proofs.Common.{ℕ, zero, suc, ◌≡◌, ◌<◌, ◌≤◌, ◌+◌, true, false, List, [], ◌∷◌, ◌++◌, length, refl, sym, ◌∙◌, ap, arith, Option, Some, None, add-one, inl, inr}
 use Rattle.std.specs.Prelude.{is_some, slice_get, unwrap_or}
-use Rattle.std.proofs.lemmas.Option.{slice_get-get_or}
-use Rattle.upd_base.specs.Plan.{Planned, planned, steps_of, step_in}
+use Rattle.upd_base.specs.Plan.{Planned, steps_of, step_in}
 use Rattle.upd_base.specs.declared.call.Step.{Step as PlannedStep}
 use Rattle.group_run.specs.Part.{below}
 use Rattle.group_run.specs.Run.{Events, calls_made}

@@ -1,10 +1,9 @@
 -- What a schedule chooses from: the next call of each thread, but for one that would be answered as full; a receipt on
 -- each link; a release at each member.
-use Rattle.std.specs.Prelude.{ℕ, ◌<◌, Bool, true, false, ◌&&◌, not, nat_lt, if◌then◌else◌, Option, Some, None, is_some, List, [], ◌∷◌, ◌++◌, length, map}
+use Rattle.std.specs.Prelude.{ℕ, ◌<◌, Bool, ◌&&◌, not, nat_lt, if◌then◌else◌, Option, Some, None, is_some, List, [], ◌∷◌, ◌++◌, length, map}
 use Rattle.std.specs.List.{flat_map}
 use Rattle.upd_base.specs.Plan.{Planned, bound}
 use Rattle.upd_base.specs.declared.call.Step.{Step as PlannedStep}
-use Rattle.upd_base.specs.declared.event.Event.{Event}
 use Rattle.upd_base.specs.declared.event.Event.TheVariants.{Call as CallEvent, Receive as ReceiveEvent, Release as ReleaseEvent}
 use Rattle.group_run.specs.Group.{Rules}
 use Rattle.group_run.specs.Held.{first_ready}

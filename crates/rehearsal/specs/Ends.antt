@@ -1,5 +1,5 @@
 -- How a schedule ends.
-use Rattle.std.specs.Prelude.{ℕ, ◌≡◌, ◌++◌, length}
+use Rattle.std.specs.Prelude.{◌≡◌, ◌++◌, length}
 use Rattle.upd_base.specs.Plan.{Planned, bound}
 use Rattle.group_run.specs.Group.{Rules}
 use Rattle.group_run.specs.Run.{Events}

@@ -1,5 +1,5 @@
 -- The seeded schedule: before each event the open choices are listed, and the generator's next word chooses.
-use Rattle.std.specs.Prelude.{ℕ, zero, suc, Bool, if◌then◌else◌, ◌%◌, ◌==◌, List, [], ◌∷◌, length, slice_index_or, filter}
+use Rattle.std.specs.Prelude.{ℕ, zero, suc, if◌then◌else◌, ◌%◌, ◌==◌, List, [], ◌∷◌, length, slice_index_or, filter}
 use Rattle.rand_pcg.specs.Lcg.{Lcg}
 use Rattle.rand_core.specs.Pcg32Seed.{pcg32_seed}
 use Rattle.rand_pcg.specs.Pcg.{pcg32, pcg32_of_seed}
@@ -7,7 +7,6 @@ use Rattle.upd_base.specs.Plan.{Planned, bound}
 use Rattle.group_run.specs.Group.{Rules}
 use Rattle.group_run.specs.Run.{Events}
 use Rattle.group_world.specs.declared.moves.Move.{Move}
-use Rattle.group_world.specs.declared.moves.Move.TheVariants.{Call}
 use Rattle.rehearsal.specs.Choices.{has_room, is_open, made, choices}
 use Rattle.rehearsal.specs.Rounds.{forced_call}
 

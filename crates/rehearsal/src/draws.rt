@@ -7,6 +7,7 @@ ghost use Rattle.run_journal.specs.Journal.{plan_of, past_of};
 ghost use Rattle.rehearsal.specs.Choices.{IsChoice, choices, has_room, is_open};
 ghost use Rattle.rehearsal.specs.Seeded.{drawn, seeded, words_of};
 ghost use Rattle.rehearsal.specs.Ends.{EndsAt, IsOnTheWay};
+ghost use Rattle.rehearsal.specs.FullAtRest.{GoesOnFullAtRest};
 
 use crate::choices::choices;
 use crate::rehearsed::{Rehearsed, end_of};
@@ -23,9 +24,11 @@ use upd_base::NoMemory;
 /// Goes on with a journal to the end of its run, where before each event the next word of the generator of this seed
 /// chooses among the enabled moves: the next call of each thread, but for one that would be answered as full, then the
 /// receipts by (from, to), then the releases by member. Where there are none, the lowest thread that has a call makes it.
+/// So a call is answered as full only where nothing can be received or released.
 pub fn seeded<O: Ordering>(alloc: Global, journal: Journal<O>, seed: u64) -> Rehearsed<O>
     ensures plan { plan_of result.journal ≡ plan_of journal }
     ensures events { EndsAt (rules_of O.Ordering) (plan_of journal) result.end (past_of result.journal) (seeded (rules_of O.Ordering) (plan_of journal) (past_of journal) (words_of seed)) }
+    ensures full { GoesOnFullAtRest (rules_of O.Ordering) (plan_of journal) (past_of journal) (past_of result.journal) }
 {
     let mut journal = journal;
     let mut words = Pcg32::seed_from_u64(seed);
@@ -44,6 +47,7 @@ fn run_draws<O: Ordering>(
     ensures made { OnOk result (past_of journal.new ≡ seeded (rules_of O.Ordering) (plan_of journal.old) (past_of journal.old) words.old) }
     ensures rests { OnOk result (has_room (plan_of journal.old) (past_of journal.new) ≡ true → IsSettled (rules_of O.Ordering) (plan_of journal.old) (past_of journal.new)) }
     ensures err { OnErr result (IsOnTheWay (past_of journal.new) (seeded (rules_of O.Ordering) (plan_of journal.old) (past_of journal.old) words.old)) }
+    ensures grows { IsOnTheWay (past_of journal.old) (past_of journal.new) }
 {
     let choices = choices(alloc, journal.plan())?;
     let limit = journal.plan().bound();

@@ -10,3 +10,6 @@ mod visit;
 pub use draws::seeded;
 pub use rehearsed::{RehearsalEnd, Rehearsed};
 pub use rounds::round_robin;
+
+#[cfg(test)]
+mod tests;

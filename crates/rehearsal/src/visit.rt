@@ -108,6 +108,7 @@ pub fn visit_all<O: Ordering>(
     ensures plan { plan_of journal.new ≡ plan_of journal.old }
     ensures made { OnOk result (past_of journal.new ≡ all_visited (rules_of O.Ordering) (plan_of journal.old) (past_of journal.old) choices.now) }
     ensures err { OnErr result (IsOnTheWay (past_of journal.new) (all_visited (rules_of O.Ordering) (plan_of journal.old) (past_of journal.old) choices.now)) }
+    ensures grows { IsOnTheWay (past_of journal.old) (past_of journal.new) }
 {
     for choice in choices {
         visit(alloc, journal, choice)?;

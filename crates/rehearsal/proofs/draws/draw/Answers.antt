@@ -1,6 +1,5 @@
-use Rattle.std.proofs.Common.{◌≡◌, ◌<◌, ◌≤◌, ◌∙◌, arith, ap, subst, sym, true, Some, None, filter, length}
+use Rattle.std.proofs.Common.{◌≡◌, ◌∙◌, arith, ap, true, Some, None, filter, length}
 use Rattle.member_rules.specs.Kept.{rules_of}
-use Rattle.upd_base.specs.Plan.{bound}
 use Rattle.run_journal.specs.Journal.{plan_of, past_of}
 use Rattle.rehearsal.specs.Choices.{has_room, is_open}
 use Rattle.rehearsal.specs.Seeded.{open_choices}

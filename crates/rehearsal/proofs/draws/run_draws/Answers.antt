@@ -1,5 +1,4 @@
-use Rattle.std.proofs.Common.{ℕ, ◌≡◌, ◌<◌, ◌≤◌, ◌+◌, ◌∙◌, arith, ap, subst, sym, refl, length}
-use Rattle.rand_pcg.specs.Lcg.{Lcg}
+use Rattle.std.proofs.Common.{◌≡◌, ◌<◌, ◌≤◌, ◌∙◌, arith, ap, subst, sym, length}
 use Rattle.member_rules.specs.Kept.{rules_of}
 use Rattle.upd_base.specs.Plan.{bound}
 use Rattle.upd_base.proofs.PlanFacts.{plan_facts}
@@ -8,10 +7,10 @@ use Rattle.std.proofs.Common.{true}
 use Rattle.group_run.specs.Settled.{IsSettled}
 use Rattle.rehearsal.specs.Choices.{has_room}
 use Rattle.run_journal.specs.Journal.{plan_of, past_of}
-use Rattle.rehearsal.specs.Seeded.{Drawn, drawn, draws, seeded}
+use Rattle.rehearsal.specs.Seeded.{drawn, seeded}
 use Rattle.rehearsal.specs.Ends.{IsOnTheWay}
-use Rattle.rehearsal.proofs.Visits.{on_err}
-use Rattle.rehearsal.proofs.DrawLaws.{draw_same, draw_settled, draw_longer, drawn_is, draws_end, draws_way, rest_drawn}
+use Rattle.rehearsal.proofs.Visits.{on_err, way_self, way_trans}
+use Rattle.rehearsal.proofs.DrawLaws.{draw_longer, draw_same, draw_settled, draw_way, drawn_is, draws_end, draws_way, rest_drawn}
 use Rattle.rehearsal.proofs.draws.run_draws.Goals as goal
 
 pub choices-requires : goal.choices-requires
@@ -71,6 +70,23 @@ loop-choices-preserved g c =
       plan = c.draw.ensures.plan ∙ i.plan;
       all = i.all;
       limit = i.limit;
+      grows = way_trans (past_of c.args.journal.now) before (past_of c.draw.new.journal) i.grows (subst (IsOnTheWay before) (sym made) (draw_way r p before words));
       few = few;
       rest = rest_drawn r p before whole words (record { past = past_of c.draw.new.journal; words = c.draw.new.words }) (drawn_is (drawn r p before words) (past_of c.draw.new.journal) c.draw.new.words made left) lt few i.rest;
     }
+
+pub returns-in_err-choices-clause-grows : goal.returns-in_err-choices-clause-grows
+returns-in_err-choices-clause-grows g c = way_self (past_of c.args.journal.now)
+
+pub returns-in_err-draw-clause-grows : goal.returns-in_err-draw-clause-grows
+returns-in_err-draw-clause-grows g c = subst (IsOnTheWay (past_of c.args.journal.now)) (sym c.in_err-draw.ensures.err) c.loop-choices.invariant.grows
+
+pub returns-then-len-before-clause-grows : goal.returns-then-len-before-clause-grows
+returns-then-len-before-clause-grows g c =
+    let r = rules_of g.O.Ordering in
+    let p = plan_of c.args.journal.now in
+    let before = past_of c.loop-choices.journal in
+    let words = c.loop-choices.words in
+    let i = c.loop-choices.invariant in
+    let made : past_of c.draw.new.journal ≡ (drawn r p before words).past = c.in_ok-draw.ensures.made ∙ ap (λ q. (drawn r q before words).past) i.plan in
+    way_trans (past_of c.args.journal.now) before (past_of c.draw.new.journal) i.grows (subst (IsOnTheWay before) (sym made) (draw_way r p before words))

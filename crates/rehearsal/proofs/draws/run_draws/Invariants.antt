@@ -4,6 +4,7 @@ use Rattle.member_rules.specs.Kept.{rules_of}
 use Rattle.run_journal.specs.Journal.{plan_of, past_of}
 use Rattle.rehearsal.specs.Choices.{choices}
 use Rattle.rehearsal.specs.Seeded.{draws, seeded}
+use Rattle.rehearsal.specs.Ends.{IsOnTheWay}
 use Rattle.rehearsal.proofs.draws.run_draws.Given as goal
 
 -- so many events are left as make the rest of the schedule, and there is room for no more
@@ -12,6 +13,7 @@ invariant-loop-choices g l = record {
   plan : plan_of l.journal ≡ plan_of l.fn.journal;
   all : l.choices.items ≡ choices (plan_of l.fn.journal);
   limit : l.limit ≡ bound (plan_of l.fn.journal);
+  grows : IsOnTheWay (past_of l.fn.journal) (past_of l.journal);
   few : length (past_of l.journal) ≤ bound (plan_of l.fn.journal);
   rest : (more : ℕ) × (bound (plan_of l.fn.journal) ≤ length (past_of l.journal) + more)
       × (draws (rules_of g.O.Ordering) (plan_of l.fn.journal) more (past_of l.journal) l.words ≡ seeded (rules_of g.O.Ordering) (plan_of l.fn.journal) (past_of l.fn.journal) l.fn.words);

@@ -1,11 +1,11 @@
-use Rattle.std.proofs.Common.{◌≡◌, ◌<◌, ◌≤◌, ◌∙◌, arith, ap, subst, sym, length}
+use Rattle.std.proofs.Common.{◌≡◌, ◌∙◌, arith, ap, subst}
 use Rattle.member_rules.specs.Kept.{rules_of}
 use Rattle.run_journal.specs.Journal.{plan_of, past_of}
 use Rattle.rehearsal.specs.Rounds.{all_visited, forced_call, round, turn}
 use Rattle.rehearsal.specs.Ends.{IsOnTheWay}
-use Rattle.rehearsal.proofs.Visits.{on_err, way_trans}
+use Rattle.rehearsal.proofs.Visits.{either_way, on_err, way_trans}
 use Rattle.rehearsal.proofs.AllChoices.{all_fit}
-use Rattle.rehearsal.proofs.TurnLaws.{err_forced, ok_forced, round_within}
+use Rattle.rehearsal.proofs.TurnLaws.{err_forced, forced_call_way, ok_forced, round_within}
 use Rattle.rehearsal.proofs.rounds.make_turn.Goals as goal
 
 pub visit_all-requires-after_bounds : goal.visit_all-requires-after_bounds
@@ -37,3 +37,10 @@ returns-clause-err g c =
     let old = past_of c.args.journal.now in
     let new = past_of c.visit_all.new.journal in
     err_forced r p old new (past_of c.force.new.journal) c.force.result (c.in_ok-visit_all.ensures.made ∙ ap (all_visited r p old) c.requires) c.force.ensures.err
+
+pub returns-clause-grows : goal.returns-clause-grows
+returns-clause-grows g c =
+    let r = rules_of g.O.Ordering in
+    let new = past_of c.visit_all.new.journal in
+    way_trans (past_of c.args.journal.now) new (past_of c.force.new.journal) c.visit_all.ensures.grows
+    (either_way new (past_of c.force.new.journal) (forced_call r (plan_of c.visit_all.new.journal) new) c.force.result (forced_call_way r (plan_of c.visit_all.new.journal) new) c.force.ensures.made c.force.ensures.err)

@@ -1,11 +1,11 @@
-use Rattle.std.proofs.Common.{ℕ, ◌≡◌, ◌<◌, ◌≤◌, ◌+◌, ◌∙◌, arith, ap, subst, sym, refl, length}
+use Rattle.std.proofs.Common.{ℕ, ◌≡◌, ◌<◌, ◌≤◌, ◌+◌, ◌∙◌, arith, ap, subst, sym, length}
 use Rattle.member_rules.specs.Kept.{rules_of}
 use Rattle.upd_base.specs.Plan.{bound}
 use Rattle.upd_base.proofs.PlanFacts.{plan_facts}
 use Rattle.run_journal.specs.Journal.{plan_of, past_of}
 use Rattle.rehearsal.specs.Rounds.{round_robin, turn, turns}
 use Rattle.rehearsal.specs.Ends.{IsOnTheWay}
-use Rattle.rehearsal.proofs.Visits.{on_err, way_trans}
+use Rattle.rehearsal.proofs.Visits.{on_err, way_self, way_trans}
 use Rattle.rehearsal.proofs.TurnLaws.{rest_after, turn_same, turn_settled, turn_within, turn_longer, turns_end, turns_way}
 use Rattle.rehearsal.proofs.rounds.run_rounds.Goals as goal
 
@@ -74,7 +74,19 @@ loop-choices-preserved g c =
     record {
       plan = c.make_turn.ensures.plan ∙ i.plan;
       all = i.all;
+      grows = way_trans (past_of c.args.journal.now) before (past_of c.make_turn.new.journal) i.grows c.make_turn.ensures.grows;
       few = few;
       rest = subst (λ past. (more : ℕ) × (bound p ≤ length past + more) × (turns r p more past ≡ whole)) (sym made)
           (rest_after r p before whole lt (let e = ap length made in omega arith) i.rest);
     }
+
+pub returns-in_err-choices-clause-grows : goal.returns-in_err-choices-clause-grows
+returns-in_err-choices-clause-grows g c = way_self (past_of c.args.journal.now)
+
+pub returns-in_err-make_turn-clause-grows : goal.returns-in_err-make_turn-clause-grows
+returns-in_err-make_turn-clause-grows g c =
+    way_trans (past_of c.args.journal.now) (past_of c.loop-choices.journal) (past_of c.make_turn.new.journal) c.loop-choices.invariant.grows c.make_turn.ensures.grows
+
+pub returns-then-len-before-clause-grows : goal.returns-then-len-before-clause-grows
+returns-then-len-before-clause-grows g c =
+    way_trans (past_of c.args.journal.now) (past_of c.loop-choices.journal) (past_of c.make_turn.new.journal) c.loop-choices.invariant.grows c.make_turn.ensures.grows
