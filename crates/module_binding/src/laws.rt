@@ -1,9 +1,9 @@
 ghost use Rattle.std.specs.Prelude.{true, ◌≡◌, [], ◌∷◌};
 ghost use Rattle.upd_base.specs.declared.kind.Kind.{Kind};
-ghost use Rattle.upd_base.specs.declared.kind.Kind.TheVariants.{Sequencer, Lamport};
+ghost use Rattle.upd_base.specs.declared.kind.Kind.TheVariants.{Sequencer, Lamport, Consensus};
 ghost use Rattle.order_trait.specs.Runs.{IsModuleRun, delivered_in, KeepsAgreement, KeepsIntegrity, KeepsFulfilment, KeepsBound};
 ghost use Rattle.module_binding.specs.Kinds.{is_served, sends_of, delivers_of};
-ghost use Rattle.module_binding.specs.Examples.{message, sequencer_run, lamport_run};
+ghost use Rattle.module_binding.specs.Examples.{message, sequencer_run, lamport_run, consensus_run};
 
 /// Every kind that is served keeps the four laws.
 pub fn every_kind_keeps_the_laws()
@@ -21,4 +21,7 @@ pub fn a_run_of_each_kind()
     ensures lamport { IsModuleRun (sends_of Lamport) Lamport 2 lamport_run }
     ensures lamport_first { delivered_in (delivers_of Lamport) 2 lamport_run 0 ≡ message ∷ [] }
     ensures lamport_second { delivered_in (delivers_of Lamport) 2 lamport_run 1 ≡ message ∷ [] }
+    ensures consensus { IsModuleRun (sends_of Consensus) Consensus 2 consensus_run }
+    ensures consensus_first { delivered_in (delivers_of Consensus) 2 consensus_run 0 ≡ message ∷ [] }
+    ensures consensus_second { delivered_in (delivers_of Consensus) 2 consensus_run 1 ≡ message ∷ [] }
 {}

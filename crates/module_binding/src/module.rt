@@ -1,7 +1,8 @@
 ghost use Rattle.std.specs.Prelude.{ℕ, true, ◌≡◌};
-ghost use Rattle.module_binding.specs.declared.module.Module.TheVariants.{Sequencer, Lamport};
+ghost use Rattle.module_binding.specs.declared.module.Module.TheVariants.{Sequencer, Lamport, Consensus};
 ghost use Rattle.module_binding.specs.Kinds.{is_served, sends_of, delivers_of};
 
+use consensus_order::ConsensusOrder;
 use lamport_order::LamportOrder;
 use order_trait::{Ordering, Outbox};
 use sequencer_order::SequencerOrder;
@@ -16,6 +17,7 @@ use upd_base::{Body, Item, Kind, MemberId, NoMemory};
 pub enum Module {
     Sequencer(SequencerOrder),
     Lamport(LamportOrder),
+    Consensus(ConsensusOrder),
 }
 
 impl Ordering for Module {
@@ -25,14 +27,13 @@ impl Ordering for Module {
 
     ghost delivers = { delivers_of };
 
-    ghost seat = { elim [ Sequencer m ↦ ⟦<SequencerOrder as Ordering>⟧.seat m | Lamport m ↦ ⟦<LamportOrder as Ordering>⟧.seat m ] };
+    ghost seat = { elim [ Sequencer m ↦ ⟦<SequencerOrder as Ordering>⟧.seat m | Lamport m ↦ ⟦<LamportOrder as Ordering>⟧.seat m | Consensus m ↦ ⟦<ConsensusOrder as Ordering>⟧.seat m ] };
 
-    ghost stands = { elim [ Sequencer m ↦ ⟦<SequencerOrder as Ordering>⟧.stands m | Lamport m ↦ ⟦<LamportOrder as Ordering>⟧.stands m ] };
+    ghost stands = { elim [ Sequencer m ↦ ⟦<SequencerOrder as Ordering>⟧.stands m | Lamport m ↦ ⟦<LamportOrder as Ordering>⟧.stands m | Consensus m ↦ ⟦<ConsensusOrder as Ordering>⟧.stands m ] };
 
     fn serves(kind: Kind) -> bool {
         match kind {
-            Kind::Sequencer(_) | Kind::Lamport => true,
-            Kind::Consensus => false,
+            Kind::Sequencer(_) | Kind::Lamport | Kind::Consensus => true,
         }
     }
 
@@ -40,7 +41,7 @@ impl Ordering for Module {
         match kind {
             Kind::Sequencer(_) => Ok(Module::Sequencer(SequencerOrder::fresh(alloc, kind, n, me)?)),
             Kind::Lamport => Ok(Module::Lamport(LamportOrder::fresh(alloc, kind, n, me)?)),
-            Kind::Consensus => unreachable!(),
+            Kind::Consensus => Ok(Module::Consensus(ConsensusOrder::fresh(alloc, kind, n, me)?)),
         }
     }
 
@@ -48,6 +49,7 @@ impl Ordering for Module {
         match self {
             Module::Sequencer(m) => m.kind(),
             Module::Lamport(m) => m.kind(),
+            Module::Consensus(m) => m.kind(),
         }
     }
 
@@ -55,6 +57,7 @@ impl Ordering for Module {
         match self {
             Module::Sequencer(m) => Ok(Module::Sequencer(m.copy(alloc)?)),
             Module::Lamport(m) => Ok(Module::Lamport(m.copy(alloc)?)),
+            Module::Consensus(m) => Ok(Module::Consensus(m.copy(alloc)?)),
         }
     }
 
@@ -62,6 +65,7 @@ impl Ordering for Module {
         match self {
             Module::Sequencer(m) => m.broadcast(alloc, item, out),
             Module::Lamport(m) => m.broadcast(alloc, item, out),
+            Module::Consensus(m) => m.broadcast(alloc, item, out),
         }
     }
 
@@ -76,6 +80,7 @@ impl Ordering for Module {
         match self {
             Module::Sequencer(m) => m.receive(alloc, from, body, out, delivered),
             Module::Lamport(m) => m.receive(alloc, from, body, out, delivered),
+            Module::Consensus(m) => m.receive(alloc, from, body, out, delivered),
         }
     }
 
@@ -89,6 +94,7 @@ impl Ordering for Module {
         match self {
             Module::Sequencer(m) => m.suspect(alloc, who, on, out),
             Module::Lamport(m) => m.suspect(alloc, who, on, out),
+            Module::Consensus(m) => m.suspect(alloc, who, on, out),
         }
     }
 

@@ -2,6 +2,8 @@ ghost use Rattle.std.specs.Prelude.{true, ◌≡◌, ◌<◌};
 ghost use Rattle.upd_base.specs.Kind.{KindFits};
 
 use super::*;
+use consensus_laws::consensus_laws;
+use consensus_order::ConsensusOrder;
 use fifo_net::first_in_first_out;
 use lamport_order::LamportOrder;
 use lamport_rules::lamport_laws;
@@ -10,28 +12,77 @@ use sequencer_order::SequencerOrder;
 use sequencer_rules::sequencer_laws;
 use std::alloc::Global;
 use std::test::*;
-use upd_base::{Item, Kind, MemberId, Text};
+use upd_base::{Body, Item, Kind, MemberId, Text};
 
-// A member of two takes the next body of a link.
-fn take_next<O: Ordering>(
+// One of two members: its module, what it is to send, and what it has delivered.
+#[derive(Drop)]
+struct Side<O: Ordering> {
+    part: O,
+    out: Outbox,
+    delivered: Vec<Item>,
+    ghost two: { (O.seat part).members ≡ 2 },
+}
+
+impl<O: Ordering> Side<O> {
+    fn new(alloc: Global, part: O, out: Outbox) -> Side<O>
+        requires { (O.seat part).members ≡ 2 }
+    {
+        Side {
+            part,
+            out,
+            delivered: Vec::new(alloc),
+        }
+    }
+
+    fn take(&mut self, alloc: Global, from: MemberId, body: &Body) -> Result<(), Fail>
+        requires { from < 2 }
+    {
+        if body.fits(2) && body.counts_from_one() {
+            self.part
+                .receive(alloc, from, body, &mut self.out, &mut self.delivered)?;
+        }
+        Ok(())
+    }
+}
+
+// The next body of a member goes to the one that it is for.
+fn pass_on<O: Ordering>(
     alloc: Global,
-    module: &mut O,
     from: MemberId,
-    link: &mut Outbox,
-    out: &mut Outbox,
-    delivered: &mut Vec<Item>,
+    sent: Option<(MemberId, Body)>,
+    first: &mut Side<O>,
+    second: &mut Side<O>,
 ) -> Result<(), Fail>
-    requires members { (O.seat module.old).members ≡ 2 }
-    requires from_fits { from < 2 }
-    ensures seat { O.seat module.new ≡ O.seat module.old }
+    requires { from < 2 }
 {
-    let Some((_, body)) = link.drain_first() else {
+    let Some((to, body)) = sent else {
         return Ok(());
     };
-    if body.fits(2) && body.counts_from_one() {
-        module.receive(alloc, from, &body, out, delivered)?;
+    if to.get() == 0 {
+        first.take(alloc, from, &body)
+    } else {
+        second.take(alloc, from, &body)
     }
-    Ok(())
+}
+
+// Both take what is sent, a body of each in turn; how many items each has delivered then.
+fn exchange<O: Ordering>(
+    alloc: Global,
+    zero: MemberId,
+    one: MemberId,
+    mut first: Side<O>,
+    mut second: Side<O>,
+) -> Result<(usize, usize), Fail>
+    requires zero_fits { zero < 2 }
+    requires one_fits { one < 2 }
+{
+    for _ in 0..20 {
+        let sent = first.out.drain_first();
+        pass_on(alloc, zero, sent, &mut first, &mut second)?;
+        let sent = second.out.drain_first();
+        pass_on(alloc, one, sent, &mut first, &mut second)?;
+    }
+    Ok((first.delivered.len(), second.delivered.len()))
 }
 
 // Of two members the second broadcasts a message; how many items each has delivered once all is taken.
@@ -50,48 +101,15 @@ fn both_deliver<O: Ordering>(alloc: Global, kind: Kind) -> Result<(usize, usize)
         number: 0,
         payload,
     };
-    let mut first = O::fresh(alloc, kind, 2, zero)?;
+    let first = O::fresh(alloc, kind, 2, zero)?;
     let mut second = O::fresh(alloc, kind, 2, one)?.copy(alloc)?;
-    let (mut of_first, mut of_second) = (Vec::new(alloc), Vec::new(alloc));
-    let (mut by_first, mut by_second) = (Outbox::new(alloc), Outbox::new(alloc));
-    let mut nothing = Outbox::new(alloc);
-    second.suspect(alloc, zero, true, &mut by_second)?;
-    second.suspect(alloc, zero, false, &mut by_second)?;
-    second.broadcast(alloc, &message, &mut by_second)?;
-    take_next(
-        alloc,
-        &mut first,
-        one,
-        &mut by_second,
-        &mut by_first,
-        &mut of_first,
-    )?;
-    take_next(
-        alloc,
-        &mut second,
-        one,
-        &mut by_second,
-        &mut nothing,
-        &mut of_second,
-    )?;
-    take_next(
-        alloc,
-        &mut first,
-        zero,
-        &mut by_first,
-        &mut nothing,
-        &mut of_first,
-    )?;
-    take_next(
-        alloc,
-        &mut second,
-        zero,
-        &mut by_first,
-        &mut nothing,
-        &mut of_second,
-    )?;
+    let mut out = Outbox::new(alloc);
+    second.suspect(alloc, zero, true, &mut out)?;
+    second.suspect(alloc, zero, false, &mut out)?;
+    second.broadcast(alloc, &message, &mut out)?;
     if O::serves(kind) && first.kind() == kind && second.kind() == kind {
-        Ok((of_first.len(), of_second.len()))
+        let first = Side::new(alloc, first, Outbox::new(alloc));
+        exchange(alloc, zero, one, first, Side::new(alloc, second, out))
     } else {
         Ok((0, 0))
     }
@@ -106,8 +124,13 @@ fn the_second_member_is_heard(rt: HostRuntime) -> Result<(), Fail> {
     let sequencer = Kind::Sequencer(zero);
     assert_eq!(rt; both_deliver::<SequencerOrder>(alloc, sequencer)?, (1, 1));
     assert_eq!(rt; both_deliver::<LamportOrder>(alloc, Kind::Lamport)?, (1, 1));
+    assert_eq!(rt;
+        both_deliver::<ConsensusOrder>(alloc, Kind::Consensus)?,
+        (1, 1)
+    );
     assert_eq!(rt; both_deliver::<Module>(alloc, sequencer)?, (1, 1));
     assert_eq!(rt; both_deliver::<Module>(alloc, Kind::Lamport)?, (1, 1));
+    assert_eq!(rt; both_deliver::<Module>(alloc, Kind::Consensus)?, (1, 1));
     Ok(())
 }
 
@@ -117,7 +140,8 @@ fn the_theorems_are_there(rt: HostRuntime) {
     every_module_run();
     sequencer_laws();
     lamport_laws();
+    consensus_laws();
     every_kind_keeps_the_laws();
     a_run_of_each_kind();
-    assert!(rt; !Module::serves(Kind::Consensus));
+    assert!(rt; Module::serves(Kind::Consensus));
 }

@@ -1,0 +1,7 @@
+use Rattle.module_binding.proofs.module.ModuleOrdering.broadcast.Goals as goal
+
+pub returns-in-Consensus-clause-stands : goal.returns-in-Consensus-clause-stands
+returns-in-Consensus-clause-stands c = rw c.in-Consensus.is c.broadcast-in-Consensus.ensures.stands
+
+pub returns-in-Consensus-clause-sent : goal.returns-in-Consensus-clause-sent
+returns-in-Consensus-clause-sent c = rw c.in-Consensus.is c.broadcast-in-Consensus.ensures.sent
