@@ -3,5 +3,7 @@
 
 mod consensus;
 mod ordering;
+#[cfg(test)]
+mod tests;
 
 pub use consensus::ConsensusOrder;
