@@ -4,3 +4,6 @@
 mod bound;
 
 pub use bound::Bound;
+
+#[cfg(test)]
+mod tests;
