@@ -30,8 +30,8 @@ here : (f : ℕ × ℕ → ℕ) (call : ℕ × ℕ) (calls : List (ℕ × ℕ)) 
 here f call calls thread is = rw (eq-eqb (call.0 % 4) thread is) refl
 
 elsewhere : (f : ℕ × ℕ → ℕ) (call : ℕ × ℕ) (calls : List (ℕ × ℕ)) (thread : ℕ) → (call.0 % 4 ≡ thread → ⊥) → total f (of_thread thread (call ∷ calls)) ≡ total f (of_thread thread calls)
-elsewhere f call calls thread no = elim (tested (call.0 % 4 == thread)) [
-  | inl e ↦ absurd (no (eqb-true (call.0 % 4) thread e))
+elsewhere f call calls thread differs = elim (tested (call.0 % 4 == thread)) [
+  | inl e ↦ absurd (differs (eqb-true (call.0 % 4) thread e))
   | inr e ↦ rw e refl
 ]
 
@@ -94,9 +94,9 @@ few_changes c (w ∷ ws) = elim (tested (c % 32 == 31)) [
       let rest = few_changes (c + 1) ws in
       omega arith
   | inr e ↦
-      let no : (c % 32 ≡ 31 → ⊥) = λ p. (let x = eq-eqb (c % 32) 31 p in cc) in
+      let differs : (c % 32 ≡ 31 → ⊥) = λ p. (let x = eq-eqb (c % 32) 31 p in cc) in
       let next : (c + 1) % 32 ≡ c % 32 + 1 = omega arith in
-      let same : total change (enumerate_from c (w ∷ ws)) ≡ total change (enumerate_from (c + 1) ws) = rw e refl in
+      let counts : total change (enumerate_from c (w ∷ ws)) ≡ 0 + total change (enumerate_from (c + 1) ws) = rw e refl in
       let rest = few_changes (c + 1) ws in
       omega arith
 ]

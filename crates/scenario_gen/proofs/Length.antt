@@ -12,7 +12,7 @@ use Rattle.scenario_gen.specs.Generate.{kind_by, member_by, message, numbered, o
 use Rattle.scenario_gen.specs.Spelling.{change_json, items_of, kind_name, scenario_json, send_json, step_json, thread_json, threads_json}
 use Rattle.scenario_gen.proofs.Counts.{AreNumbers, all_threads, length_numbered, numbers, numbers_of_thread, one, tested, total, total_one}
 
-separator_short : (b : Bool) → length (cond b (44 ∷ []) []) ≤ 1
+separator_short : (b : Bool) → length {A = ℕ} (cond b (44 ∷ []) []) ≤ 1
 separator_short true = omega arith
 separator_short false = omega arith
 

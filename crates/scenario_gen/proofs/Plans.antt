@@ -1,8 +1,9 @@
 -- The plan that a generated line is read as.
-use Rattle.std.proofs.Common.{ℕ, zero, suc, ◌≡◌, ◌<◌, ◌≤◌, ◌+◌, ◌*◌, true, List, [], ◌∷◌, ◌++◌, length, map, refl, sym, ap, ◌∙◌, arith, Ok, le-leb}
+use Rattle.std.proofs.Common.{ℕ, zero, suc, ◌≡◌, ◌<◌, ◌≤◌, ◌+◌, ◌*◌, true, List, [], ◌∷◌, ◌++◌, length, map, refl, sym, ap, subst, ◌∙◌, arith, Ok, le-leb}
 use Rattle.std.specs.Prelude.{codes, slice_index}
 use Rattle.std.specs.Str.{IsUtf8}
 use Rattle.std.proofs.lemmas.Str.{IsUtf8-append, IsUtf8-from_ascii}
+use Rattle.json.specs.Token.{Token}
 use Rattle.json.specs.Print.{print}
 use Rattle.json.specs.Tree.{json_tokens}
 use Rattle.serde_json.specs.View.{items_of}
@@ -12,9 +13,9 @@ use Rattle.scenario.specs.Gives.{◌>>=◌}
 use Rattle.scenario.specs.Reading.{each, kind, kind_in, members_in, none_before, path_of, plan_of, reading, thread, threads_in, tree}
 use Rattle.scenario.specs.Tree.{check}
 use Rattle.scenario.proofs.Json.{tree_ok}
-use Rattle.scenario_gen.specs.Generate.{numbered, of_thread, plan_by, step_by, steps_by}
+use Rattle.scenario_gen.specs.Generate.{generated, generator_of, numbered, of_thread, plan_by, words}
 use Rattle.scenario_gen.specs.Spelling.{scenario_json}
-use Rattle.scenario_gen.proofs.Counts.{all_threads, change, few_changes, length_numbered, numbers, numbers_of_thread, one, total, total_one}
+use Rattle.scenario_gen.proofs.Counts.{all_threads, change, few_changes, length_numbered, length_words, numbers, numbers_of_thread, one, total, total_one}
 use Rattle.scenario_gen.proofs.Length.{line_short}
 use Rattle.scenario_gen.proofs.Line.{newline}
 use Rattle.scenario_gen.proofs.Steps.{Fit, after_threads, threads_read}
@@ -62,3 +63,11 @@ reads ws le utf8 =
     ap (λ b. check b TooLong >>= λ _. tree line >>= plan_of) (le-leb (length line) 1048576 (line_short ws le))
     ∙ ap (λ r. r >>= plan_of) (tree_ok line (scenario_data (numbered ws)) valid (read_line ws))
     ∙ plan_read ws le
+
+pub generated_read : (seed calls : ℕ) (ws before text line : List ℕ) (ts : List Token) → calls ≤ 1000 → ws ≡ words seed calls → before ≡ [] → ts ≡ json_tokens (scenario_json ws) → IsUtf8 (print ts)
+    → text ≡ before ++ print ts → line ≡ text ++ newline → reading line ≡ Ok (generated seed calls)
+generated_read seed calls ws before text line ts few drawn empty spelling utf8 made ended =
+    let many : length ws ≤ 1000 = (let l = length_words calls (generator_of seed) in let e = ap length drawn in omega arith) in
+    let is : line ≡ print (json_tokens (scenario_json ws)) ++ newline =
+        ended ∙ ap (λ t. t ++ newline) (made ∙ ap (λ b. b ++ print ts) empty ∙ ap print spelling) in
+    ap reading is ∙ reads ws many (subst (λ x. IsUtf8 (print x)) spelling utf8) ∙ ap (λ x. Ok (plan_by x)) drawn

@@ -22,11 +22,11 @@ use Rattle.scenario_gen.proofs.Tree.{change_data, send_data, step_data, thread_d
 -- Kinds --------------------------------------------------------------------------------------------------------------
 
 sequencer_named : (m : ℕ) → m < 5 → kind_of 5 (kind_name (Sequencer m)) ≡ Some (Sequencer m)
-sequencer_named 0 lt = rw (decimal_digit 0 (omega arith)) refl
-sequencer_named 1 lt = rw (decimal_digit 1 (omega arith)) refl
-sequencer_named 2 lt = rw (decimal_digit 2 (omega arith)) refl
-sequencer_named 3 lt = rw (decimal_digit 3 (omega arith)) refl
-sequencer_named 4 lt = rw (decimal_digit 4 (omega arith)) refl
+sequencer_named zero lt = rw (decimal_digit 0 (omega arith)) refl
+sequencer_named (suc zero) lt = rw (decimal_digit 1 (omega arith)) refl
+sequencer_named (suc (suc zero)) lt = rw (decimal_digit 2 (omega arith)) refl
+sequencer_named (suc (suc (suc zero))) lt = rw (decimal_digit 3 (omega arith)) refl
+sequencer_named (suc (suc (suc (suc zero)))) lt = rw (decimal_digit 4 (omega arith)) refl
 sequencer_named (suc (suc (suc (suc (suc m))))) lt = absurd (omega arith)
 
 kind_named : (word : ℕ) → kind_of 5 (kind_name (kind_by word)) ≡ Some (kind_by word)
