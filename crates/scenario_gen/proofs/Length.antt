@@ -1,15 +1,13 @@
 -- A generated line is short enough for a scenario.
-use Rattle.std.proofs.Common.{ℕ, suc, ◌≡◌, ◌<◌, ◌≤◌, ◌+◌, ◌*◌, ◌/◌, ◌%◌, ◌^◌, ◌==◌, ◌&&◌, ◌⊎◌, inl, inr, Bool, true, false, cond, List, [], ◌∷◌, ◌++◌, length, map, refl, sym, ap, ◌∙◌, arith, decimal, length-append}
+use Rattle.std.proofs.Common.{ℕ, ◌<◌, ◌≤◌, ◌+◌, ◌*◌, ◌/◌, ◌%◌, ◌==◌, ◌&&◌, inl, inr, Bool, true, false, cond, List, [], ◌∷◌, ◌++◌, length, map, arith, decimal, length-append}
 use Rattle.std.specs.Prelude.{codes, nat_lt}
 use Rattle.std.proofs.lemmas.Fmt.{length-decimal-le}
 use Rattle.json.specs.Token.{Token}
-use Rattle.json.specs.Print.{begins, ends, escape, escape_byte, escape_letter, print, print_from, quoted, separator, token_text}
-use Rattle.json.specs.Tree.{items_tokens, json_tokens, members_tokens, room}
+use Rattle.json.specs.Print.{begins, ends, escape, escape_byte, escape_letter, print, print_from, quoted, token_text}
+use Rattle.json.specs.Tree.{items_tokens, json_tokens, room}
 use Rattle.json.proofs.Printed.Trees.{room-append}
-use Rattle.upd_base.specs.declared.kind.Kind.{Kind}
-use Rattle.upd_base.specs.declared.kind.Kind.TheVariants.{Sequencer, Lamport, Consensus}
 use Rattle.scenario_gen.specs.Generate.{kind_by, member_by, message, numbered, of_thread}
-use Rattle.scenario_gen.specs.Spelling.{change_json, items_of, kind_name, scenario_json, send_json, step_json, thread_json, threads_json}
+use Rattle.scenario_gen.specs.Spelling.{items_of, kind_name, scenario_json, step_json, thread_json, threads_json}
 use Rattle.scenario_gen.proofs.Counts.{AreNumbers, all_threads, length_numbered, numbers, numbers_of_thread, one, tested, total, total_one}
 
 separator_short : (b : Bool) → length {A = ℕ} (cond b (44 ∷ []) []) ≤ 1

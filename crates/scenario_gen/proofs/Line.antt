@@ -3,7 +3,7 @@ use Rattle.std.proofs.Common.{ℕ, ◌≡◌, Bool, true, false, cond, ◌&&◌,
 use Rattle.json.specs.Token.{Token, begin_object, end_object, begin_array, end_array, key, string, number, boolean, null, bad}
 use Rattle.json.specs.Word.{ends_word, word}
 use Rattle.json.specs.Lex.{Lexeme, token, comma, colon, string_token, lex, between, fresh, punctuate, tokens}
-use Rattle.json.specs.Print.{escape, quoted, token_text, begins, ends, separator, print_from, print, IsPrintable, ArePrintable}
+use Rattle.json.specs.Print.{escape, quoted, token_text, begins, ends, print_from, print, IsPrintable, ArePrintable}
 use Rattle.json.proofs.Printed.Strings.{content-escape, lex-escape}
 use Rattle.json.proofs.Printed.Numbers.{lex-number, in_word-ended}
 use Rattle.json.proofs.Printed.Tokens.{tokens-print}
@@ -73,9 +73,9 @@ same_lexed c (t ∷ ts) r s h er es same =
     let b = c && begins t in
     let gap = cond b (44 ∷ []) [] in
     let whole : (x : List ℕ) → ends_word x ≡ true → lex between ((gap ++ (token_text t ++ rest)) ++ x) ≡ cond b (comma ∷ []) [] ++ (lexemes_of t ++ lex between (rest ++ x)) = λ x e.
-        ap (lex between) (append_assoc gap (token_text t ++ rest) x ∙ ap (λ l. gap ++ l) (append_assoc (token_text t) rest x))
-        ∙ separator_lexed b (token_text t ++ (rest ++ x))
-        ∙ ap (λ l. cond b (comma ∷ []) [] ++ l) (text_lexed t (rest ++ x) h.0 (λ v. ap (λ y. ends_word (print_from y ts ++ x)) v ∙ value_ends ts x e)) in
+    ap (lex between) (append_assoc gap (token_text t ++ rest) x ∙ ap (λ l. gap ++ l) (append_assoc (token_text t) rest x))
+    ∙ separator_lexed b (token_text t ++ (rest ++ x))
+    ∙ ap (λ l. cond b (comma ∷ []) [] ++ l) (text_lexed t (rest ++ x) h.0 (λ v. ap (λ y. ends_word (print_from y ts ++ x)) v ∙ value_ends ts x e)) in
     whole r er ∙ ap (λ l. cond b (comma ∷ []) [] ++ (lexemes_of t ++ l)) (same_lexed (ends t) ts r s h.1 er es same) ∙ sym (whole s es)
 
 -- the tokens of a printed line

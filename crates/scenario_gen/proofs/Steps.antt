@@ -1,13 +1,12 @@
 -- The steps of a generated scenario, as they are read.
-use Rattle.std.proofs.Common.{ℕ, zero, suc, ◌≡◌, ◌<◌, ◌≤◌, ◌+◌, ◌/◌, ◌%◌, ◌^◌, ◌==◌, ◌⊎◌, inl, inr, Bool, true, false, List, [], ◌∷◌, ◌++◌, length, map, refl, sym, ap, ◌∙◌, arith, Option, Some, None, Ok, if◌then◌else◌, decimal, lt-ltb}
-use Rattle.std.specs.Prelude.{codes}
+use Rattle.std.proofs.Common.{ℕ, zero, suc, ◌≡◌, ◌<◌, ◌≤◌, ◌+◌, ◌/◌, ◌%◌, ◌==◌, inl, inr, List, [], ◌∷◌, length, map, refl, ap, ◌∙◌, arith, Some, Ok, lt-ltb}
 use Rattle.std.proofs.lemmas.Fmt.{decimal_digit}
 use Rattle.serde_json.specs.Data.{object}
 use Rattle.serde_json.specs.View.{items_of}
 use Rattle.upd_base.specs.Text.{payload}
 use Rattle.upd_base.specs.Plan.{change_count}
 use Rattle.upd_base.specs.declared.kind.Kind.{Kind}
-use Rattle.upd_base.specs.declared.kind.Kind.TheVariants.{Sequencer, Lamport, Consensus}
+use Rattle.upd_base.specs.declared.kind.Kind.TheVariants.{Sequencer}
 use Rattle.upd_base.specs.declared.call.Call.TheVariants.{Send, Change}
 use Rattle.scenario.specs.declared.before.Before.{Before}
 use Rattle.scenario.specs.Reading.{after, call_of, each, kind, kind_in, kind_of, member_below, member_in, op_in, payload_of, step, thread}
@@ -79,7 +78,7 @@ steps_read b path i (call ∷ calls) numbers steps changes =
     let s = step_by call in
     let k = counted call in
     ap (λ r. r >>= λ first. each (step 5) first.1 path (i + 1) (items_of (map step_data calls)) >>= λ rest. Ok (first.0 ∷ rest.0, rest.1))
-        (step_read b (item_path path i) call numbers.0 (omega arith) (omega arith))
+    (step_read b (item_path path i) call numbers.0 (omega arith) (omega arith))
     ∙ ap (λ r. r >>= λ rest. Ok (s ∷ rest.0, rest.1)) (steps_read (after b s) path (i + 1) calls numbers.1 (omega arith) (omega arith))
     ∙ ap (λ x. Ok (s ∷ map step_by calls, x)) (next_is b call calls)
 
@@ -104,5 +103,5 @@ threads_read b path i [] h = refl
 threads_read b path i (calls ∷ threads) h =
     let s = map step_by calls in
     ap (λ r. r >>= λ first. each (thread 5) first.1 path (i + 1) (items_of (map thread_data threads)) >>= λ rest. Ok (first.0 ∷ rest.0, rest.1))
-        (thread_read b (item_path path i) calls h.0 h.1 h.2)
+    (thread_read b (item_path path i) calls h.0 h.1 h.2)
     ∙ ap (λ r. r >>= λ rest. Ok (s ∷ rest.0, rest.1)) (threads_read (after_all b calls) path (i + 1) threads h.3)

@@ -1,19 +1,18 @@
 -- The tree that a generated line is read as.
-use Rattle.std.proofs.Common.{ℕ, zero, suc, ◌≡◌, ◌<◌, ◌≤◌, ◌+◌, ◌%◌, ◌^◌, ◌==◌, ◌⊎◌, inl, inr, Bool, true, false, List, [], ◌∷◌, ◌++◌, length, map, max, refl, sym, ap, ◌∙◌, arith, Option, Some, None, option_map, option_and_then, if◌then◌else◌, decimal, append-nil}
+use Rattle.std.proofs.Common.{ℕ, ◌≡◌, ◌<◌, ◌≤◌, ◌%◌, ◌^◌, ◌==◌, inl, inr, List, [], ◌∷◌, ◌++◌, map, refl, sym, ap, ◌∙◌, arith, Some, option_map, option_and_then, if◌then◌else◌, append-nil}
 use Rattle.std.specs.Prelude.{codes}
-use Rattle.json.specs.Token.{Token}
 use Rattle.json.specs.Json as json
 use Rattle.json.specs.Print.{print, ArePrintable}
 use Rattle.json.specs.Tree as tree
 use Rattle.json.proofs.Printed.Decimals.{IsNumber-decimal}
 use Rattle.json.proofs.Printed.Trees.{ArePrintable-json_tokens, value-json_tokens}
 use Rattle.serde_json.specs.Data.{Data, Members, array, item, member, no_members, number, object, put, string, unsigned}
-use Rattle.serde_json.specs.Read.{max_depth, number_of, of_items, of_json, of_members, read}
+use Rattle.serde_json.specs.Read.{max_depth, of_items, of_json, of_members, read}
 use Rattle.serde_json.specs.View as view
 use Rattle.serde_json.proofs.Numbers.{number_of-decimal}
 use Rattle.upd_base.specs.declared.kind.Kind.{Kind}
 use Rattle.scenario_gen.specs.Generate.{kind_by, member_by, message, numbered, of_thread}
-use Rattle.scenario_gen.specs.Spelling.{call_json, change_json, items_of, kind_name, scenario_json, send_json, step_json, thread_json, threads_json}
+use Rattle.scenario_gen.specs.Spelling.{items_of, kind_name, scenario_json, step_json, thread_json, threads_json}
 use Rattle.scenario_gen.proofs.Counts.{tested}
 use Rattle.scenario_gen.proofs.Line.{newline, tokens_of_line}
 
@@ -114,5 +113,5 @@ read_line ws =
     let j = scenario_json ws in
     ap (option_and_then of_json)
     (ap (option_and_then (λ p. json.if_last p.0 p.1))
-      (ap (json.value max_depth) (tokens_of_line (tree.json_tokens j) (printable ws) ∙ sym (append-nil (tree.json_tokens j))) ∙ value-json_tokens j max_depth [] (scenario_depth ws)))
+    (ap (json.value max_depth) (tokens_of_line (tree.json_tokens j) (printable ws) ∙ sym (append-nil (tree.json_tokens j))) ∙ value-json_tokens j max_depth [] (scenario_depth ws)))
     ∙ scenario_of_json ws

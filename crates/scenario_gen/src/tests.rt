@@ -48,6 +48,9 @@ fn hash(bytes: &[u8]) -> u64 {
 #[test]
 fn the_longest_line(rt: HostRuntime) -> Result<(), Fail> {
     let line = generate(rt.alloc(), 7, 1000)?;
-    assert_eq!(rt; (line.len(), hash(line.as_slice())), (35164, 0x1a7e_048e_36f1_d609));
+    assert_eq!(rt;
+        (line.len(), hash(line.as_slice())),
+        (35164, 0x1a7e_048e_36f1_d609)
+    );
     Ok(())
 }

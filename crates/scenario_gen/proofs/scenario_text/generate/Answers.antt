@@ -1,4 +1,4 @@
-use Rattle.std.proofs.Common.{◌≡◌, ◌++◌, ◌∙◌, ap}
+use Rattle.std.proofs.Common.{◌++◌, ◌∙◌, ap}
 use Rattle.json.specs.Tree.{json_tokens}
 use Rattle.scenario_gen.specs.Spelling.{scenario_json}
 use Rattle.scenario_gen.proofs.Plans.{generated_read}

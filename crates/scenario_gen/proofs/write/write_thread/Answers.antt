@@ -1,4 +1,4 @@
-use Rattle.std.proofs.Common.{◌≡◌, ◌++◌, ◌+◌, ◌∙◌, ap, drop, get_or, refl}
+use Rattle.std.proofs.Common.{◌++◌, ◌+◌, ◌∙◌, ap, drop, get_or, refl}
 use Rattle.scenario_gen.proofs.Loops.{left, step_passed, step_written}
 use Rattle.scenario_gen.proofs.write.write_thread.Goals.{then-call-thread+in_ok-write_step, else-call-thread}
 use Rattle.scenario_gen.proofs.write.write_thread.Goals as goal
