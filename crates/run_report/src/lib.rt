@@ -1,11 +1,9 @@
-//! The report of a run.
+//! The report of a recorded run.
 #![tactic(auto)]
 
+mod absent;
+mod counts;
 mod lines;
-mod report;
+mod text;
 
-pub use lines::{report_text, run_line};
-pub use report::{Absence, Absent, MemberReport, Report};
-
-#[cfg(test)]
-mod tests;
+pub use text::report_text;

@@ -25,8 +25,6 @@ pub enum Reason {
     BadOp,
     /// More than 1,000 calls, or more than 32 changes.
     TooMany,
-    /// A plan that this program does not run yet.
-    NotBuilt,
 }
 
 /// Where in a scenario: the keys and numbers that lead there.
@@ -96,13 +94,6 @@ pub(crate) fn fault_at(alloc: Global, path: &[u8], reason: Reason) -> ScenarioFa
         },
         Err(_) => ScenarioFault::NoMemory,
     }
-}
-
-/// The fault of a plan that the program does not run yet.
-pub fn not_built(alloc: Global) -> ScenarioFault
-    ensures { OrMemory result (result ≡ ScenarioFault.At (codes "/") Reason.NotBuilt) }
-{
-    fault_at(alloc, b"/", Reason::NotBuilt)
 }
 
 /// The path of a key of the object at a path.

@@ -11,7 +11,7 @@ mod steps;
 mod tree;
 
 pub use before::Before;
-pub use fault::{PathText, Reason, ScenarioFault, not_built};
+pub use fault::{PathText, Reason, ScenarioFault};
 pub use op::Op;
 pub use root::{MAX_TEXT, read};
 

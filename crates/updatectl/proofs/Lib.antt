@@ -1,4 +1,6 @@
 pub mod Read
 pub mod Seeds
-pub mod Records
-pub mod Sends
+pub mod Serves
+pub mod Calls
+pub mod Rehearsals
+pub mod Plain

@@ -1,18 +1,22 @@
 -- What a status says of the source, the sink and the journal.
-use Rattle.std.specs.Prelude.{ℕ, ◌≡◌, ◌≢◌, ◌⊎◌, false, codes, List, Option, None, Result, Ok, Err, ⊤, IfSome}
+use Rattle.std.specs.Prelude.{ℕ, ◌≡◌, ◌≢◌, ◌⊎◌, List, Option, None, Result, Ok, Err, ⊤, IfSome}
 use Rattle.upd_base.specs.declared.edge.EdgeFault.{EdgeFault}
 use Rattle.upd_base.specs.declared.edge.EdgeFault.TheVariants.{Failed, NoMemory}
-use Rattle.std.specs.Io.KnownBytes.{Appends, IsAtEnd}
+use Rattle.std.specs.Io.KnownBytes.{Appends, IsAtEnd, Keeps}
 use Rattle.upd_base.specs.Edge.{Rose}
 use Rattle.upd_io.specs.Whole.{AppendsPrefix, AppendsLess}
 use Rattle.upd_base.specs.Plan.{Planned}
 use Rattle.scenario.specs.Reading.{reading}
 use Rattle.scenario.specs.declared.fault.ScenarioFault.{ScenarioFault}
 use Rattle.scenario.specs.declared.fault.ScenarioFault.TheVariants as faults
-use Rattle.scenario.specs.declared.fault.Reason.TheVariants as reasons
-use Rattle.updatectl.specs.Built.{is_built}
-use Rattle.updatectl.specs.declared.schedule.End.{End}
-use Rattle.updatectl.specs.declared.schedule.End.TheVariants.{Settled, Spent}
+use Rattle.group_run.specs.Run.{Events}
+use Rattle.rehearsal.specs.declared.rehearsed.RehearsalEnd.{RehearsalEnd}
+use Rattle.rehearsal.specs.declared.rehearsed.RehearsalEnd.TheVariants as ends
+use Rattle.updatectl.specs.Recorded.{CameTo}
+use Rattle.updatectl.specs.Texts.{run_text}
+use Rattle.updatectl.specs.declared.words.Form.{Form}
+use Rattle.updatectl.specs.declared.run_end.End.{End}
+use Rattle.updatectl.specs.declared.run_end.End.TheVariants.{Settled, Spent}
 use Rattle.updatectl.specs.declared.outcome.Status.{Status}
 use Rattle.updatectl.specs.declared.outcome.Status.TheVariants as statuses
 
@@ -49,14 +53,6 @@ status_of end (Ok x) = status_at end
 status_of end (Err Failed) = statuses.SinkFailed
 status_of end (Err NoMemory) = statuses.NoMemory
 
--- the fault of a plan that is not built
-abbrev pub not_built : ScenarioFault
-not_built = faults.At (codes "/") reasons.NotBuilt
-
--- The bytes are refused with this fault: they read as it, or as a plan that is not built.
-abbrev pub IsRefused : List ℕ → ScenarioFault → Type 0
-IsRefused bytes fault = (reading bytes ≡ Err fault) ⊎ ((fault ≡ not_built) × ((p : Planned) × (reading bytes ≡ Ok p) × (is_built p ≡ false)))
-
 -- What was read of a source: its plan, or why there is none.
 abbrev pub PlanFrom : Result Planned Status → ℕ → ℕ → Option (List ℕ) → Option (List ℕ) → Type 0
 PlanFrom (Ok plan) before now old new = IfSome old (λ all. reading all ≡ Ok plan) × IsAtEnd new
@@ -68,16 +64,34 @@ PlanFrom (Err statuses.Done) before now old new = ⊥
 PlanFrom (Err statuses.SinkFailed) before now old new = ⊥
 PlanFrom (Err statuses.TurnsSpent) before now old new = ⊥
 
--- What the sink got of a run's text, which ends with the line of the run's end: all of it, or at a fault of the
--- sink and at want of memory a prefix.
-abbrev pub WroteRun : Status → Option (List ℕ) → Option (List ℕ) → (End → List ℕ) → Type 0
-WroteRun statuses.Done old new text = Appends old new (text Settled)
-WroteRun statuses.TurnsSpent old new text = Appends old new (text Spent)
-WroteRun statuses.SinkFailed old new text = (end : End) × AppendsLess old new (text end)
-WroteRun statuses.NoMemory old new text = (end : End) × AppendsPrefix old new (text end)
-WroteRun statuses.Words old new text = ⊥
-WroteRun statuses.SourceFailed old new text = ⊥
-WroteRun (statuses.Scenario fault) old new text = ⊥
+-- Runs ----------------------------------------------------------------------------------------------------------
+
+-- What the sink got of a run's text, which ends with the line of the run's end: all of it, or at a fault of the sink a
+-- prefix. At want of memory a prefix, or nothing where there was no text yet.
+abbrev pub WroteRun : Status → Form → Planned → Events → Option (List ℕ) → Option (List ℕ) → Type 0
+WroteRun statuses.Done form plan past old new = CameTo Settled plan past × Appends old new (run_text form plan past Settled)
+WroteRun statuses.TurnsSpent form plan past old new = CameTo Spent plan past × Appends old new (run_text form plan past Spent)
+WroteRun statuses.SinkFailed form plan past old new = (end : End) × CameTo end plan past × AppendsLess old new (run_text form plan past end)
+WroteRun statuses.NoMemory form plan past old new = Keeps old new ⊎ ((end : End) × CameTo end plan past × AppendsPrefix old new (run_text form plan past end))
+WroteRun statuses.Words form plan past old new = ⊥
+WroteRun statuses.SourceFailed form plan past old new = ⊥
+WroteRun (statuses.Scenario fault) form plan past old new = ⊥
+
+-- what is known of a run where its schedule ended so
+abbrev pub CameBy : RehearsalEnd → Planned → Events → Type 0
+CameBy ends.Settled plan past = CameTo Settled plan past
+CameBy ends.Spent plan past = CameTo Spent plan past
+CameBy ends.NoMemory plan past = Unit {0}
+
+-- the statuses of a run that came to this end
+abbrev pub IsAt : End → Status → Type 0
+IsAt end status = (status ≡ status_at end) ⊎ (status ≡ statuses.SinkFailed) ⊎ (status ≡ statuses.NoMemory)
+
+-- the statuses of a run whose schedule ended so
+abbrev pub IsAfter : RehearsalEnd → Status → Type 0
+IsAfter ends.Settled status = IsAt Settled status
+IsAfter ends.Spent status = IsAt Spent status
+IsAfter ends.NoMemory status = status ≡ statuses.NoMemory
 
 -- the status of a refused scenario
 abbrev pub refused : ScenarioFault → Status
@@ -90,7 +104,7 @@ refused faults.NoMemory = statuses.NoMemory
 abbrev pub RefusalCause : {C : Type 0} → Status → Option C → ℕ → ℕ → Option (List ℕ) → Type 0
 RefusalCause statuses.Words asked before now old = asked ≡ None
 RefusalCause statuses.SourceFailed asked before now old = Rose before now
-RefusalCause (statuses.Scenario fault) asked before now old = IfSome old (λ all. IsRefused all fault)
+RefusalCause (statuses.Scenario fault) asked before now old = IfSome old (λ all. reading all ≡ Err fault)
 RefusalCause statuses.Done asked before now old = ⊥
 RefusalCause statuses.SinkFailed asked before now old = ⊥
 RefusalCause statuses.TurnsSpent asked before now old = ⊥

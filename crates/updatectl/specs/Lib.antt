@@ -1,6 +1,6 @@
 pub mod Words
-pub mod Built
-pub mod Record
-pub mod Kept
+pub mod Recorded
+pub mod Calls
 pub mod Texts
 pub mod Causes
+pub mod Rehearsal

@@ -5,13 +5,15 @@ use Rattle.scenario.specs.declared.fault.ScenarioFault.TheVariants as faults
 use Rattle.scenario.specs.declared.fault.Reason.{Reason}
 use Rattle.scenario.specs.declared.fault.Reason.TheVariants as reasons
 use Rattle.run_report.specs.Report.{report}
-use Rattle.run_report.specs.declared.report.Report.{Report}
+use Rattle.upd_base.specs.Plan.{Planned}
+use Rattle.group_run.specs.Run.{Events}
+use Rattle.updatectl.specs.Recorded.{the_rules}
 use Rattle.updatectl.specs.declared.outcome.Status.{Status}
 use Rattle.updatectl.specs.declared.outcome.Status.TheVariants as statuses
 use Rattle.updatectl.specs.declared.words.Form.{Form}
 use Rattle.updatectl.specs.declared.words.Form.TheVariants.{Long, Short}
-use Rattle.updatectl.specs.declared.schedule.End.{End}
-use Rattle.updatectl.specs.declared.schedule.End.TheVariants.{Settled, Spent}
+use Rattle.updatectl.specs.declared.run_end.End.{End}
+use Rattle.updatectl.specs.declared.run_end.End.TheVariants.{Settled, Spent}
 
 -- a reason in words
 abbrev pub reason_text : Reason → List ℕ
@@ -23,7 +25,6 @@ reason_text reasons.BadText = codes "bad text"
 reason_text reasons.BadKind = codes "bad kind"
 reason_text reasons.BadOp = codes "bad op"
 reason_text reasons.TooMany = codes "too many"
-reason_text reasons.NotBuilt = codes "not built"
 
 -- why a scenario is refused
 unfoldable pub fault_text : ScenarioFault → List ℕ
@@ -56,8 +57,8 @@ is_short Long = false
 is_short Short = true
 
 -- the report of a run with its end line
-unfoldable pub run_text : Form → Report → End → List ℕ
-run_text form given end = report (is_short form) given ++ end_line end
+unfoldable pub run_text : Form → Planned → Events → End → List ℕ
+run_text form plan past end = report the_rules plan past (is_short form) ++ end_line end
 
 -- the exit status
 abbrev pub code_of : Status → ℕ

@@ -1,11 +1,9 @@
 //! Reads a scenario, runs the group that it describes, and reports what each member delivered.
 #![tactic(auto)]
 
-mod group;
 mod journal;
 mod outcome;
-mod record;
-mod schedule;
+mod run_end;
 mod std_edge;
 mod texts;
 mod top;

@@ -1,4 +1,5 @@
-use crate::journal::Journal;
+use module_binding::Module;
+use run_journal::Journal;
 use scenario::ScenarioFault;
 
 /// How the program ended.
@@ -25,7 +26,7 @@ pub enum Status {
 #[derive(Drop)]
 pub struct Outcome<L> {
     pub status: Status,
-    pub journal: Option<Journal>,
+    pub journal: Option<Journal<Module>>,
     pub lines: Vec<Option<L>>,
 }
 

@@ -40,7 +40,6 @@ fn run(
 #[test]
 fn statuses(rt: HostRuntime) -> Result<(), Fail> {
     let alloc = rt.alloc();
-    let lamport = "{\"members\":1,\"first\":\"lamport\",\"threads\":[[]]}";
     let (status, text) = run(alloc, &["rehearse", "7", "short"], ROW, &[], &[])?;
     assert_eq!(rt; (status, text.as_str()), (0, SHORT));
     let (status, text) = run(alloc, &["rehearse", "short"], ROW, &[2], &[])?;
@@ -49,11 +48,6 @@ fn statuses(rt: HostRuntime) -> Result<(), Fail> {
     assert_eq!(rt; (status, text.as_str()), (4, "run: 3 mem"));
     let (status, text) = run(alloc, &["rehearse"], "{\"members\":8}", &[], &[2])?;
     assert_eq!(rt; (status, text.as_str()), (5, "scena"));
-    let (status, text) = run(alloc, &["rehearse"], lamport, &[], &[])?;
-    assert_eq!(rt;
-        (status, text.as_str()),
-        (5, "scenario refused at /: not built\n")
-    );
     Ok(())
 }
 
@@ -66,7 +60,7 @@ fn journals(rt: HostRuntime) -> Result<(), Fail> {
     let outcome = plain(alloc, words.as_slice(), &mut source, &mut sink);
     assert!(rt; matches!(&outcome.status, Status::SinkFailed));
     let journal = outcome.journal.ok_or("no journal")?;
-    assert_eq!(rt; journal.events().len(), 5);
+    assert_eq!(rt; journal.len(), 5);
     assert_eq!(rt; journal.plan().members(), 3);
     let mut sink = SureSink::new(alloc);
     let mut source = SureSource::new(Vec::from_slice(alloc, ROW.as_bytes())?);

@@ -1,11 +1,14 @@
 //! The texts that the sink gets.
 ghost use Rattle.std.specs.Prelude.{◌≡◌, ◌++◌, IfOk};
+ghost use Rattle.run_journal.specs.Journal.{plan_of, past_of};
 ghost use Rattle.updatectl.specs.Texts.{end_line, fault_text, is_short, reason_text, refusal_text, run_text, usage};
 
 use crate::outcome::Status;
-use crate::schedule::End;
+use crate::run_end::End;
 use crate::words::Form;
-use run_report::{Report, report_text};
+use module_binding::Module;
+use run_journal::Journal;
+use run_report::report_text;
 use scenario::{Reason, ScenarioFault};
 use std::alloc::{AllocError, Global};
 use upd_base::NoMemory;
@@ -32,7 +35,6 @@ fn reason_text(reason: Reason) -> &'static str
         Reason::BadKind => "bad kind",
         Reason::BadOp => "bad op",
         Reason::TooMany => "too many",
-        Reason::NotBuilt => "not built",
     }
 }
 
@@ -74,12 +76,12 @@ pub(crate) fn refusal_text(alloc: Global, status: &Status) -> Result<Vec<u8>, Al
 pub(crate) fn run_text(
     alloc: Global,
     form: Form,
-    report: &Report,
+    journal: &Journal<Module>,
     end: End,
 ) -> Result<Vec<u8>, NoMemory>
-    ensures { IfOk result (λ text. text.items ≡ run_text form report.now end) }
+    ensures { IfOk result (λ text. text.items ≡ run_text form (plan_of journal.now) (past_of journal.now) end) }
 {
-    let mut text = report_text(alloc, report, is_short(form))?;
+    let mut text = report_text(alloc, journal, is_short(form))?;
     text.extend_from_slice(end_line(end).as_bytes())?;
     Ok(text)
 }

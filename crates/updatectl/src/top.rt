@@ -1,29 +1,32 @@
-//! The top call.
-ghost use Rattle.std.specs.Prelude.{◌≡◌, ◌⊎◌, ◌≤◌, true, false, Some, None, Ok, Err, IfSome, IsSome, IfNone, OnSome, map, string_bytes};
+ghost use Rattle.std.specs.Prelude.{◌≡◌, ◌⊎◌, true, false, Some, None, Ok, Err, [], IfSome, IsSome, IfNone, OnSome, map, string_bytes};
 ghost use Rattle.std.specs.Io.KnownBytes.{Appends, Keeps, IsAtEnd};
 ghost use Rattle.upd_base.specs.Edge.{Rose};
 ghost use Rattle.upd_base.specs.Plan.{Planned};
 ghost use Rattle.upd_io.specs.Whole.{AppendsPrefix, AppendsLess};
 ghost use Rattle.scenario.specs.Reading.{reading};
 ghost use Rattle.scenario.specs.declared.fault.ScenarioFault.{ScenarioFault};
+ghost use Rattle.run_journal.specs.Journal.{plan_of, past_of};
 ghost use Rattle.updatectl.specs.Words.{command};
-ghost use Rattle.updatectl.specs.Built.{is_built};
-ghost use Rattle.updatectl.specs.Record.{CountsRecord, IsRecord};
-ghost use Rattle.updatectl.specs.Texts.{refusal_text, run_text};
-ghost use Rattle.updatectl.specs.Causes.{IsRefusal, IsRefused, IsWriting, OrMemory, PlanFrom, RefusalCause, Told, WroteRun, not_built, refused, status_at, status_of};
+ghost use Rattle.updatectl.specs.Recorded.{CameTo};
+ghost use Rattle.updatectl.specs.Calls.{HasNo, is_suspect};
+ghost use Rattle.updatectl.specs.Rehearsal.{IsRehearsalOf};
+ghost use Rattle.updatectl.specs.Texts.{refusal_text};
+ghost use Rattle.updatectl.specs.Causes.{CameBy, IsAfter, IsAt, IsRefusal, IsWriting, OrMemory, PlanFrom, RefusalCause, Told, WroteRun, refused, status_at, status_of};
 ghost use Rattle.updatectl.specs.declared.words.Rehearse.{Rehearse};
 ghost use Rattle.updatectl.specs.declared.outcome.Status.{Status};
-ghost use Rattle.updatectl.specs.declared.schedule.End.{End};
+ghost use Rattle.updatectl.specs.declared.run_end.End.{End};
 
-use crate::group::built_sequencer;
-use crate::journal::{Journal, rehearse};
+use crate::journal::{keeps_laws, rehearse};
 use crate::outcome::{Outcome, Status};
-use crate::schedule::End;
+use crate::run_end::End;
 use crate::texts::{refusal_text, run_text};
 use crate::words::{Form, Rehearse, command_of};
-use scenario::{MAX_TEXT, ScenarioFault, not_built, read};
+use module_binding::Module;
+use rehearsal::{RehearsalEnd, Rehearsed};
+use run_journal::Journal;
+use scenario::{MAX_TEXT, ScenarioFault, read};
 use std::alloc::Global;
-use upd_base::{EdgeFault, NoLine, Plan, Sink, Source};
+use upd_base::{EdgeFault, NoLine, NoMemory, Plan, Sink, Source};
 use upd_io::{read_all, write_all};
 
 /// What the program did without a journal.
@@ -55,27 +58,64 @@ fn refuse<K: Sink>(alloc: Global, status: Status, sink: &mut K) -> Outcome<NoLin
     }
 }
 
-/// Writes the text of a run that has come to its end.
+/// Gives back the journal of a rehearsal, whose text it writes where the run has come to its end.
 fn finish<K: Sink>(
     alloc: Global,
     form: Form,
-    journal: Journal,
-    end: End,
+    rehearsed: Rehearsed<Module>,
     sink: &mut K,
 ) -> Outcome<NoLine>
-    ensures journal { result.journal ≡ Some journal }
-    ensures status { IsWriting result.status }
-    ensures wrote { WroteRun result.status (K.held sink.old) (K.held sink.new) (run_text form journal.report) }
+    requires { CameBy rehearsed.end (plan_of rehearsed.journal) (past_of rehearsed.journal) }
+    ensures journal { result.journal ≡ Some rehearsed.journal }
+    ensures status { IsAfter rehearsed.end result.status }
+    ensures wrote { WroteRun result.status form (plan_of rehearsed.journal) (past_of rehearsed.journal) (K.held sink.old) (K.held sink.new) }
     ensures cause { result.status ≡ Status.SinkFailed → Rose (K.faults sink.old) (K.faults sink.new) }
 {
-    let status = match run_text(alloc, form, journal.report(), end) {
-        Ok(text) => written(end, write_all(sink, text.as_slice())),
-        Err(_) => Status::NoMemory,
-    };
+    let Rehearsed { journal, end } = rehearsed;
+    let status = write_end(alloc, form, &journal, end, sink);
     Outcome {
         status,
         journal: Some(journal),
         lines: Vec::new(alloc),
+    }
+}
+
+/// Writes the text of a rehearsal, where it has come to the end of its run.
+fn write_end<K: Sink>(
+    alloc: Global,
+    form: Form,
+    journal: &Journal<Module>,
+    end: RehearsalEnd,
+    sink: &mut K,
+) -> Status
+    requires { CameBy end (plan_of journal.now) (past_of journal.now) }
+    ensures status { IsAfter end result }
+    ensures wrote { WroteRun result form (plan_of journal.now) (past_of journal.now) (K.held sink.old) (K.held sink.new) }
+    ensures cause { result ≡ Status.SinkFailed → Rose (K.faults sink.old) (K.faults sink.new) }
+{
+    match end {
+        RehearsalEnd::Settled => write_run(alloc, form, journal, End::Settled, sink),
+        RehearsalEnd::Spent => write_run(alloc, form, journal, End::Spent, sink),
+        RehearsalEnd::NoMemory => Status::NoMemory,
+    }
+}
+
+/// Writes the text of a run that has come to this end.
+fn write_run<K: Sink>(
+    alloc: Global,
+    form: Form,
+    journal: &Journal<Module>,
+    end: End,
+    sink: &mut K,
+) -> Status
+    requires { CameTo end (plan_of journal.now) (past_of journal.now) }
+    ensures status { IsAt end result }
+    ensures wrote { WroteRun result form (plan_of journal.now) (past_of journal.now) (K.held sink.old) (K.held sink.new) }
+    ensures cause { result ≡ Status.SinkFailed → Rose (K.faults sink.old) (K.faults sink.new) }
+{
+    match run_text(alloc, form, journal, end) {
+        Ok(text) => written(end, write_all(sink, text.as_slice())),
+        Err(NoMemory) => Status::NoMemory,
     }
 }
 
@@ -126,28 +166,40 @@ fn refused(fault: ScenarioFault) -> Status
 
 /// Runs a plan and writes its text.
 fn run<K: Sink>(alloc: Global, asked: Rehearse, plan: Plan, sink: &mut K) -> Outcome<NoLine>
-    ensures built { is_built plan ≡ true → IsWriting result.status }
-    ensures there { is_built plan ≡ true → OrMemory result.status Status.NoMemory ⊎ IsSome result.journal }
-    ensures other { is_built plan ≡ false → OrMemory result.status (Status.Scenario not_built) }
-    ensures plan { IfSome result.journal (λ j. j.plan ≡ plan) }
-    ensures record { IfSome result.journal (λ j. IsRecord j.plan j.events) }
-    ensures counts { IfSome result.journal (λ j. CountsRecord j.events j.report) }
-    ensures wrote { IfSome result.journal (λ j. WroteRun result.status (K.held sink.old) (K.held sink.new) (run_text asked.form j.report)) }
+    ensures writing { IsWriting result.status }
+    ensures there { OrMemory result.status Status.NoMemory ⊎ IsSome result.journal }
+    ensures plan { IfSome result.journal (λ j. plan_of j ≡ plan) }
+    ensures rehearsal { IfSome result.journal (λ j. IsRehearsalOf asked.seed result.status (plan_of j) (past_of j)) }
+    ensures complete { HasNo is_suspect plan → (Rose (K.faults sink.old) (K.faults sink.new) → ⊥) → OrMemory result.status Status.Done }
+    ensures wrote { IfSome result.journal (λ j. WroteRun result.status asked.form (plan_of j) (past_of j) (K.held sink.old) (K.held sink.new)) }
     ensures cause { result.status ≡ Status.SinkFailed → Rose (K.faults sink.old) (K.faults sink.new) }
-    ensures refusal { IsRefusal result.status → Told (K.faults sink.old) (K.faults sink.new) (K.held sink.old) (K.held sink.new) (refusal_text result.status) }
-    ensures refused { IsRefusal result.status → result.journal ≡ None }
-    ensures memory { IfNone result.journal (Keeps (K.held sink.old) (K.held sink.new) ⊎ ((is_built plan ≡ false) × AppendsPrefix (K.held sink.old) (K.held sink.new) (refusal_text (Status.Scenario not_built)))) }
+    ensures memory { IfNone result.journal (Keeps (K.held sink.old) (K.held sink.new)) }
 {
-    let Some(sequencer) = built_sequencer(&plan) else {
-        return match not_built(alloc) {
-            ScenarioFault::NoMemory => without_journal(alloc, Status::NoMemory),
-            fault => refuse(alloc, Status::Scenario(fault), sink),
-        };
-    };
-    match rehearse(alloc, asked.seed, sequencer, plan) {
-        Ok((journal, end)) => finish(alloc, asked.form, journal, end, sink),
-        Err(_) => without_journal(alloc, Status::NoMemory),
+    match Journal::begin(alloc, plan) {
+        Ok(journal) => run_through(alloc, asked, journal, sink),
+        Err(NoMemory) => without_journal(alloc, Status::NoMemory),
     }
+}
+
+/// Rehearses a fresh journal and writes the text of its run.
+fn run_through<K: Sink>(
+    alloc: Global,
+    asked: Rehearse,
+    journal: Journal<Module>,
+    sink: &mut K,
+) -> Outcome<NoLine>
+    requires { past_of journal ≡ [] }
+    ensures there { IsSome result.journal }
+    ensures status { IsWriting result.status }
+    ensures plan { IfSome result.journal (λ j. plan_of j ≡ plan_of journal) }
+    ensures rehearsal { IfSome result.journal (λ j. IsRehearsalOf asked.seed result.status (plan_of j) (past_of j)) }
+    ensures complete { HasNo is_suspect (plan_of journal) → (Rose (K.faults sink.old) (K.faults sink.new) → ⊥) → OrMemory result.status Status.Done }
+    ensures wrote { IfSome result.journal (λ j. WroteRun result.status asked.form (plan_of j) (past_of j) (K.held sink.old) (K.held sink.new)) }
+    ensures cause { result.status ≡ Status.SinkFailed → Rose (K.faults sink.old) (K.faults sink.new) }
+{
+    let rehearsed = rehearse(alloc, asked.seed, journal);
+    keeps_laws(&rehearsed.journal);
+    finish(alloc, asked.form, rehearsed, sink)
 }
 
 /// Does what the words ask for: `rehearse [SEED] [short]` reads a scenario from the source, runs it on one
@@ -165,23 +217,25 @@ pub fn plain<S: Source, K: Sink>(
     ensures source_failed { result.status ≡ Status.SourceFailed → Rose (S.faults source.old) (S.faults source.new) }
     // SinkFailed: only where the sink's faults rose.
     ensures sink_failed { result.status ≡ Status.SinkFailed → Rose (K.faults sink.old) (K.faults sink.new) }
-    // Scenario: exactly where the bytes are refused with that fault.
-    ensures scenario { (f : ScenarioFault) → result.status ≡ Status.Scenario f → IfSome (S.left source.old) (λ all. IsRefused all f) }
-    ensures scenario_only { IsSome (command (map string_bytes words.now)) → IfSome (S.left source.old) (λ all. (f : ScenarioFault) → IsRefused all f
+    // Scenario: exactly where the reading of the bytes is that fault.
+    ensures scenario { (f : ScenarioFault) → result.status ≡ Status.Scenario f → IfSome (S.left source.old) (λ all. reading all ≡ Err f) }
+    ensures scenario_only { IsSome (command (map string_bytes words.now)) → IfSome (S.left source.old) (λ all. (f : ScenarioFault) → reading all ≡ Err f
         → OrMemory result.status (Status.Scenario f) ⊎ (result.status ≡ Status.SourceFailed)) }
-    // A run that is built comes to its end, and its text is written.
-    ensures run_only { IsSome (command (map string_bytes words.now)) → IfSome (S.left source.old) (λ all. (p : Planned) → reading all ≡ Ok p → is_built p ≡ true
+    // A run comes to its end, and its text is written.
+    ensures run_only { IsSome (command (map string_bytes words.now)) → IfSome (S.left source.old) (λ all. (p : Planned) → reading all ≡ Ok p
         → IsWriting result.status ⊎ (result.status ≡ Status.SourceFailed)) }
-    // The journal is there once the run has come to its end, and it is of the plan that the whole input is.
+    // Where the plan has no suspicion and no edge fails, the run is settled and its text is written, want of memory aside.
+    ensures complete { IsSome (command (map string_bytes words.now)) → IfSome (S.left source.old) (λ all. (p : Planned) → reading all ≡ Ok p → HasNo is_suspect p
+        → (Rose (S.faults source.old) (S.faults source.new) → ⊥) → (Rose (K.faults sink.old) (K.faults sink.new) → ⊥) → OrMemory result.status Status.Done) }
+    // The journal is there once the run was begun, and it is of the plan that the whole input is.
     ensures there { IsWriting result.status → OrMemory result.status Status.NoMemory ⊎ IsSome result.journal }
-    ensures plan { IfSome result.journal (λ j. IfSome (S.left source.old) (λ all. reading all ≡ Ok j.plan)) }
+    ensures plan { IfSome result.journal (λ j. IfSome (S.left source.old) (λ all. reading all ≡ Ok (plan_of j))) }
     ensures to_end { OnSome result.journal (IsAtEnd (S.left source.new)) }
-    // The planned calls stand in it at most once, each thread's in order, and the report counts its events.
-    ensures record { IfSome result.journal (λ j. IsRecord j.plan j.events) }
-    ensures counts { IfSome result.journal (λ j. CountsRecord j.events j.report) }
-    // The sink got the text of that run, or a prefix of it.
+    // Its events are those of the schedule that the words ask for, and a run that keeps all that is promised of it.
+    ensures rehearsal { IfSome result.journal (λ j. (asked : Rehearse) → command (map string_bytes words.now) ≡ Some asked → IsRehearsalOf asked.seed result.status (plan_of j) (past_of j)) }
+    // The sink got the text of that run with the line of its end, or a prefix of it.
     ensures run { IfSome result.journal (λ j. (asked : Rehearse) → command (map string_bytes words.now) ≡ Some asked
-        → WroteRun result.status (K.held sink.old) (K.held sink.new) (run_text asked.form j.report)) }
+        → WroteRun result.status asked.form (plan_of j) (past_of j) (K.held sink.old) (K.held sink.new)) }
     ensures refusal { IsRefusal result.status → Told (K.faults sink.old) (K.faults sink.new) (K.held sink.old) (K.held sink.new) (refusal_text result.status) }
     ensures refused_journal { IsRefusal result.status → result.journal ≡ None }
     // At want of memory without a journal it got nothing, or a prefix of the text of a refusal that has its cause.

@@ -1,0 +1,62 @@
+-- From what was read of the source to what is promised of all its bytes.
+use Rattle.std.proofs.Common.{ℕ, ◌≡◌, ◌∙◌, ◌⊎◌, inl, inr, true, false, List, Option, Some, None, IfSome, Result, Ok, Err, sym, ap, subst}
+use Rattle.upd_base.specs.Edge.{Rose}
+use Rattle.upd_base.specs.Plan.{Planned}
+use Rattle.scenario.specs.Reading.{reading}
+use Rattle.scenario.specs.declared.fault.ScenarioFault.{ScenarioFault}
+use Rattle.updatectl.specs.Calls.{HasNo, is_suspect}
+use Rattle.updatectl.specs.Causes.{IsWriting, OrMemory, PlanFrom}
+use Rattle.updatectl.specs.declared.outcome.Status.{Status}
+use Rattle.updatectl.specs.declared.outcome.Status.TheVariants as statuses
+
+-- one reading gives one plan
+same_plan : {r : Result Planned ScenarioFault} {p q : Planned} → r ≡ Ok p → r ≡ Ok q → p ≡ q
+same_plan e f = cc
+
+-- A plan was read -------------------------------------------------------------------------------------------------
+
+pub plan_refused : (old : Option (List ℕ)) (p : Planned) (status : Status) → IfSome old (λ all. reading all ≡ Ok p)
+    → IfSome old (λ all. (f : ScenarioFault) → reading all ≡ Err f → OrMemory status (statuses.Scenario f) ⊎ (status ≡ statuses.SourceFailed))
+plan_refused None p status read = tt
+plan_refused (Some all) p status read = λ f e. absurd (let q : Ok p ≡ Err f = sym read ∙ e in cc)
+
+pub plan_written : (old : Option (List ℕ)) (p : Planned) (status : Status) → IsWriting status
+    → IfSome old (λ all. (q : Planned) → reading all ≡ Ok q → IsWriting status ⊎ (status ≡ statuses.SourceFailed))
+plan_written None p status writing = tt
+plan_written (Some all) p status writing = λ q e. inl writing
+
+pub plan_complete : (old : Option (List ℕ)) (p : Planned) (status : Status) (Source Sink : Type 0) → IfSome old (λ all. reading all ≡ Ok p)
+    → (HasNo is_suspect p → (Sink → ⊥) → OrMemory status statuses.Done)
+    → IfSome old (λ all. (q : Planned) → reading all ≡ Ok q → HasNo is_suspect q → (Source → ⊥) → (Sink → ⊥) → OrMemory status statuses.Done)
+plan_complete None p status Source Sink read ends = tt
+plan_complete (Some all) p status Source Sink read ends = λ q e without steady holds. ends (subst (HasNo is_suspect) (sym (same_plan read e)) without) holds
+
+-- None was --------------------------------------------------------------------------------------------------------
+
+pub none_refused : (given status : Status) (before now : ℕ) (old new : Option (List ℕ)) → PlanFrom (Err given) before now old new → OrMemory status given
+    → IfSome old (λ all. (f : ScenarioFault) → reading all ≡ Err f → OrMemory status (statuses.Scenario f) ⊎ (status ≡ statuses.SourceFailed))
+none_refused given status before now None new from or = tt
+none_refused statuses.SourceFailed status before now (Some all) new from (inl e) = λ f r. inr e
+none_refused statuses.SourceFailed status before now (Some all) new from (inr e) = λ f r. inl (inr e)
+none_refused (statuses.Scenario fault) status before now (Some all) new from or = λ f e.
+    let same : Err fault ≡ Err f = sym from.1 ∙ e in
+    let is : fault ≡ f = cc in
+    inl (subst (λ x. OrMemory status (statuses.Scenario x)) is or)
+none_refused statuses.NoMemory status before now (Some all) new from (inl e) = λ f r. inl (inr e)
+none_refused statuses.NoMemory status before now (Some all) new from (inr e) = λ f r. inl (inr e)
+none_refused statuses.Words status before now (Some all) new from or = absurd from
+none_refused statuses.Done status before now (Some all) new from or = absurd from
+none_refused statuses.SinkFailed status before now (Some all) new from or = absurd from
+none_refused statuses.TurnsSpent status before now (Some all) new from or = absurd from
+
+pub none_complete : (given status : Status) (before now : ℕ) (old new : Option (List ℕ)) (Sink : Type 0) → PlanFrom (Err given) before now old new → OrMemory status given
+    → IfSome old (λ all. (q : Planned) → reading all ≡ Ok q → HasNo is_suspect q → (Rose before now → ⊥) → (Sink → ⊥) → OrMemory status statuses.Done)
+none_complete given status before now None new Sink from or = tt
+none_complete statuses.SourceFailed status before now (Some all) new Sink from or = λ q e without steady holds. absurd (steady from)
+none_complete (statuses.Scenario fault) status before now (Some all) new Sink from or = λ q e without steady holds. absurd (let r : Err fault ≡ Ok q = sym from.1 ∙ e in cc)
+none_complete statuses.NoMemory status before now (Some all) new Sink from (inl m) = λ q e without steady holds. inr m
+none_complete statuses.NoMemory status before now (Some all) new Sink from (inr m) = λ q e without steady holds. inr m
+none_complete statuses.Words status before now (Some all) new Sink from or = absurd from
+none_complete statuses.Done status before now (Some all) new Sink from or = absurd from
+none_complete statuses.SinkFailed status before now (Some all) new Sink from or = absurd from
+none_complete statuses.TurnsSpent status before now (Some all) new Sink from or = absurd from

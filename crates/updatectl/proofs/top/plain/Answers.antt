@@ -1,0 +1,24 @@
+use Rattle.upd_base.specs.Edge.{Rose}
+use Rattle.updatectl.proofs.Plain.{none_complete, none_refused, plan_complete, plan_refused, plan_written}
+use Rattle.updatectl.proofs.top.plain.Goals as goal
+
+pub returns-in-Ok-clause-scenario_only : goal.returns-in-Ok-clause-scenario_only
+returns-in-Ok-clause-scenario_only g c = λ words. plan_refused (g.S.Source.left c.args.source.now) c.in-Ok.plan c.run.result.status c.in-Ok.ensures.0
+
+pub returns-in-Ok-clause-run_only : goal.returns-in-Ok-clause-run_only
+returns-in-Ok-clause-run_only g c = λ words. plan_written (g.S.Source.left c.args.source.now) c.in-Ok.plan c.run.result.status c.run.ensures.writing
+
+pub returns-in-Ok-clause-complete : goal.returns-in-Ok-clause-complete
+returns-in-Ok-clause-complete g c = λ words.
+    plan_complete (g.S.Source.left c.args.source.now) c.in-Ok.plan c.run.result.status (Rose (g.S.Source.faults c.args.source.now) (g.S.Source.faults c.plan_from.new.source))
+    (Rose (g.K.Sink.faults c.args.sink.now) (g.K.Sink.faults c.run.new.sink)) c.in-Ok.ensures.0 c.run.ensures.complete
+
+pub returns-in-Err-clause-complete : goal.returns-in-Err-clause-complete
+returns-in-Err-clause-complete g c = λ words.
+    none_complete c.in-Err.status c.refuse-in-Err.result.status (g.S.Source.faults c.args.source.now) (g.S.Source.faults c.plan_from.new.source) (g.S.Source.left c.args.source.now)
+    (g.S.Source.left c.plan_from.new.source) (Rose (g.K.Sink.faults c.args.sink.now) (g.K.Sink.faults c.refuse-in-Err.new.sink)) c.in-Err.ensures c.refuse-in-Err.ensures.status
+
+pub returns-in-Err-clause-scenario_only : goal.returns-in-Err-clause-scenario_only
+returns-in-Err-clause-scenario_only g c = λ words.
+    none_refused c.in-Err.status c.refuse-in-Err.result.status (g.S.Source.faults c.args.source.now) (g.S.Source.faults c.plan_from.new.source) (g.S.Source.left c.args.source.now)
+    (g.S.Source.left c.plan_from.new.source) c.in-Err.ensures c.refuse-in-Err.ensures.status
