@@ -56,7 +56,7 @@ pub absent_are : (rules : Rules) (plan p q : Planned) (events es : List Event) (
     → items ≡ absent_from log sorted2 → items ≡ absent_items rules plan (reverse events)
 absent_are rules plan p q events es log accepted accepted2 sorted sorted2 items n pe qe ee le ae ae2 ne se se2 e =
     let turned : accepted2 ≡ reverse (accepted_in plan (reverse events)) =
-        ae2 ∙ ae ∙ ap (λ r. flat_map (accepted_of r) es) pe ∙ ap (flat_map (accepted_of plan)) (ee ∙ sym (reverse-reverse events)) ∙ sym (accepted_turned plan (reverse events)) in
+    ae2 ∙ ae ∙ ap (λ r. flat_map (accepted_of r) es) pe ∙ ap (flat_map (accepted_of plan)) (ee ∙ sym (reverse-reverse events)) ∙ sym (accepted_turned plan (reverse events)) in
     let by : sorted2 ≡ by_origin plan.members (reverse (accepted_in plan (reverse events))) =
-        se2 ∙ se ∙ ap (λ m. by_origin m accepted2) (ne ∙ ap (λ r. r.members) qe) ∙ ap (by_origin plan.members) turned in
+    se2 ∙ se ∙ ap (λ m. by_origin m accepted2) (ne ∙ ap (λ r. r.members) qe) ∙ ap (by_origin plan.members) turned in
     e ∙ ap (λ l. absent_from l sorted2) le ∙ ap (absent_from (one_list rules plan (reverse events))) by

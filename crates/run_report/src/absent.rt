@@ -78,8 +78,7 @@ fn is_overtaken<O: Ordering>(journal: &Journal<O>, item: &Item) -> bool
 fn has_switch_of(version: u16, log: &[Entry]) -> bool
     ensures { result ≡ has_switch_of version log.now }
 {
-    log.iter()
-        .any(|entry| entry.version == version && entry.item.switch().is_some())
+    log.iter().any(|entry| entry.version == version && entry.item.switch().is_some())
 }
 
 /// The longest log, of the lowest member that has it.

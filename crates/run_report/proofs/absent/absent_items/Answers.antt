@@ -8,11 +8,11 @@ pub returns-clause-items : goal.returns-clause-items
 returns-clause-items g c =
     let j = c.args.journal.now in
     IfOk-weaker c.absent_from.result _ _
-        (λ v e. absent_are (rules_of g.O.Ordering) (plan_of j) c.plan.result.now c.plan-2.result.now (events_of j) c.events.result.now c.longest_log.result.now c.in_ok-accepted.accepted.items
-            c.as_slice.result.now c.in_ok-sorted.sorted.items c.as_slice-2.result.now v.items c.members.result
-            c.plan.ensures.value c.plan-2.ensures.value c.events.ensures c.longest_log.ensures c.in_ok-accepted.ensures c.as_slice.ensures.value c.members.ensures
-            c.in_ok-sorted.ensures c.as_slice-2.ensures.value e)
-        c.absent_from.ensures
+    (λ v e. absent_are (rules_of g.O.Ordering) (plan_of j) c.plan.result.now c.plan-2.result.now (events_of j) c.events.result.now c.longest_log.result.now c.in_ok-accepted.accepted.items
+    c.as_slice.result.now c.in_ok-sorted.sorted.items c.as_slice-2.result.now v.items c.members.result
+    c.plan.ensures.value c.plan-2.ensures.value c.events.ensures c.longest_log.ensures c.in_ok-accepted.ensures c.as_slice.ensures.value c.members.ensures
+    c.in_ok-sorted.ensures c.as_slice-2.ensures.value e)
+    c.absent_from.ensures
 
 pub returns-clause-accepted : goal.returns-clause-accepted
 returns-clause-accepted g c =

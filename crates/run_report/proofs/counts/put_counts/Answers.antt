@@ -12,7 +12,7 @@ returns g c =
     let j = c.args.journal.now in
     let is = c.plan-plan.ensures.value in
     IfOk-weaker c.put_lines.result _ _
-        (λ _ e. counts_turned (plan_of j) (events_of j) c.args.out.now.items c.put_lines.new.out.items c.members.result c.planned.result
-            (c.members.ensures ∙ ap (λ p. p.members) is) (c.planned.ensures ∙ ap (λ p. sum_by steps_in p.threads) is)
-            (e ∙ ap (λ l. c.args.out.now.items ++ counts_of c.members.result c.planned.result l) c.events.ensures))
-        c.put_lines.ensures
+    (λ _ e. counts_turned (plan_of j) (events_of j) c.args.out.now.items c.put_lines.new.out.items c.members.result c.planned.result
+    (c.members.ensures ∙ ap (λ p. p.members) is) (c.planned.ensures ∙ ap (λ p. sum_by steps_in p.threads) is)
+    (e ∙ ap (λ l. c.args.out.now.items ++ counts_of c.members.result c.planned.result l) c.events.ensures))
+    c.put_lines.ensures
