@@ -24,13 +24,25 @@ const SAME_KIND: &str =
     r#"{"members":1,"first":"sequencer 0","threads":[[{"at":0,"op":"send","text":"a"},{"at":0,"op":"change","kind":"sequencer 0"},{"at":0,"op":"send","text":"b"}]]}"#;
 
 const OVERTAKEN: &str =
-    r#"{"members":2,"first":"sequencer 0","threads":[[{"at":0,"op":"change","kind":"lamport"}],[{"at":1,"op":"change","kind":"lamport"}]]}"#;
+    r#"{"members":2,"first":"sequencer 0","threads":[[{"at":0,"op":"change","kind":"lamport"}],[{"at":1,"op":"change","kind":"consensus"}]]}"#;
 
 const STAMPS: &str =
     r#"{"members":2,"first":"lamport","threads":[[{"at":0,"op":"send","text":"a"}],[{"at":1,"op":"send","text":"b"}]]}"#;
 
 const CRASH: &str =
     r#"{"members":3,"first":"sequencer 0","threads":[[{"at":1,"op":"send","text":"a"},{"at":0,"op":"crash"},{"at":2,"op":"send","text":"b"}]]}"#;
+
+const ALONE: &str =
+    r#"{"members":1,"first":"consensus","threads":[[{"at":0,"op":"send","text":"a"}]]}"#;
+
+const ONE_SUSPECTED: &str =
+    r#"{"members":3,"first":"consensus","threads":[[{"at":2,"op":"suspect","member":0},{"at":1,"op":"send","text":"a"}]]}"#;
+
+const EACH_SUSPECTED: &str =
+    r#"{"members":2,"first":"consensus","threads":[[{"at":0,"op":"suspect","member":1},{"at":1,"op":"suspect","member":0},{"at":0,"op":"send","text":"a"}]]}"#;
+
+const EACH_KIND: &str =
+    r#"{"members":3,"first":"sequencer 0","threads":[[{"at":1,"op":"send","text":"a"},{"at":0,"op":"change","kind":"consensus"},{"at":2,"op":"send","text":"b"},{"at":1,"op":"change","kind":"lamport"},{"at":0,"op":"send","text":"c"},{"at":2,"op":"change","kind":"sequencer 2"},{"at":1,"op":"send","text":"d"}]]}"#;
 
 /// A journal of the plan that a scenario is read as.
 fn begun(alloc: Global, text: &str) -> Result<Journal<Module>, Fail> {
@@ -107,6 +119,24 @@ fn runs_by_rounds(rt: HostRuntime) -> Result<(), Fail> {
     let crash = run(alloc, CRASH)?;
     assert_eq!(rt; (crash.0, crash.1, crash.2), (settled, 6, false));
     assert_eq!(rt; crash.3.as_slice(), [(0, 1, 0, true)].as_slice());
+    Ok(())
+}
+
+#[test]
+fn runs_of_consensus(rt: HostRuntime) -> Result<(), Fail> {
+    let alloc = rt.alloc();
+    let settled = RehearsalEnd::Settled;
+    let alone = run(alloc, ALONE)?;
+    assert_eq!(rt; (alone.0, alone.1, alone.2), (settled, 6, true));
+    assert_eq!(rt; alone.3.as_slice(), [(0, 0, 0, true)].as_slice());
+    // The suspected coordinator of the first round gives it up, and the second round decides.
+    let one = run(alloc, ONE_SUSPECTED)?;
+    assert_eq!(rt; (one.0, one.1, one.2), (settled, 41, false));
+    assert_eq!(rt; one.3.as_slice(), [(0, 1, 0, true)].as_slice());
+    // No round gathers two acceptances.
+    let each = run(alloc, EACH_SUSPECTED)?;
+    assert_eq!(rt; (each.0, each.1, each.2), (RehearsalEnd::Spent, 31, false));
+    assert!(rt; each.3.is_empty());
     Ok(())
 }
 
@@ -192,6 +222,36 @@ fn a_run_over_lines(rt: HostRuntime) -> Result<(), Fail> {
     assert_eq!(rt;
         longest(alloc, &journal)?.as_slice(),
         [(0, 1, 0, true), (0, 2, 0, true)].as_slice()
+    );
+    Ok(())
+}
+
+#[test]
+fn a_change_to_each_kind(rt: HostRuntime) -> Result<(), Fail> {
+    let alloc = rt.alloc();
+    let mut journal = begun(alloc, EACH_KIND)?;
+    for _ in 0..7 {
+        if journal.plan().threads() > 0 {
+            journal.call(alloc, 0).ok().ok_or("a call")?;
+        }
+        for _ in 0..20 {
+            receive_all(alloc, &mut journal)?;
+        }
+    }
+    assert!(rt; journal.settled());
+    assert_eq!(rt; (journal.len(), quiet(&journal)), (91, true));
+    assert_eq!(rt;
+        longest(alloc, &journal)?.as_slice(),
+        [
+            (0, 1, 0, true),
+            (0, 0, 0, false),
+            (1, 2, 0, true),
+            (1, 1, 1, false),
+            (2, 0, 1, true),
+            (2, 2, 1, false),
+            (3, 1, 2, true),
+        ]
+        .as_slice()
     );
     Ok(())
 }
