@@ -3,14 +3,16 @@ ghost use Rattle.run_journal.specs.Journal.{plan_of};
 
 use frame_feed::Feed;
 use group_laws::{canon, journal_is_bounded, journal_is_fulfilled, journal_is_ordered, quiet};
+use lamport_order::LamportOrder;
 use line_fakes::SureLines;
 use module_binding::Module;
+use order_trait::Ordering;
 use rehearsal::{RehearsalEnd, Rehearsed, round_robin, seeded};
 use run_journal::{Journal, serves};
 use scenario::read;
 use std::alloc::Global;
 use std::test::*;
-use upd_base::{Entry, Frame, Item, MemberId};
+use upd_base::{Answer, Entry, Event, Frame, Item, MemberId};
 use upd_frame::encode;
 use upd_lines::{Line, LineMaker};
 
@@ -44,10 +46,13 @@ const EACH_SUSPECTED: &str =
 const EACH_KIND: &str =
     r#"{"members":3,"first":"sequencer 0","threads":[[{"at":1,"op":"send","text":"a"},{"at":0,"op":"change","kind":"consensus"},{"at":2,"op":"send","text":"b"},{"at":1,"op":"change","kind":"lamport"},{"at":0,"op":"send","text":"c"},{"at":2,"op":"change","kind":"sequencer 2"},{"at":1,"op":"send","text":"d"}]]}"#;
 
+const STAMPS_OVERTAKEN: &str =
+    r#"{"members":2,"first":"lamport","threads":[[{"at":0,"op":"change","kind":"lamport"}],[{"at":1,"op":"change","kind":"lamport"}]]}"#;
+
 /// A journal of the plan that a scenario is read as.
-fn begun(alloc: Global, text: &str) -> Result<Journal<Module>, Fail> {
+fn begun<O: Ordering>(alloc: Global, text: &str) -> Result<Journal<O>, Fail> {
     let plan = read(alloc, text.as_bytes()).ok().ok_or("a plan")?;
-    if !serves::<Module>(&plan) {
+    if !serves::<O>(&plan) {
         return Err("kinds that are served")?;
     }
     Ok(Journal::begin(alloc, plan)?)
@@ -62,7 +67,10 @@ fn short(entry: &Entry) -> (u16, u8, u32, bool) {
 }
 
 /// The log of the member with the longest one, in short.
-fn longest(alloc: Global, journal: &Journal<Module>) -> Result<Vec<(u16, u8, u32, bool)>, Fail> {
+fn longest<O: Ordering>(
+    alloc: Global,
+    journal: &Journal<O>,
+) -> Result<Vec<(u16, u8, u32, bool)>, Fail> {
     let lead = u8::try_from(canon(journal)).ok().ok_or("a member")?;
     let lead = MemberId::new(lead).ok_or("a member")?;
     let mut entries = Vec::new(alloc);
@@ -77,7 +85,7 @@ fn run(
     alloc: Global,
     text: &str,
 ) -> Result<(RehearsalEnd, u64, bool, Vec<(u16, u8, u32, bool)>), Fail> {
-    let Rehearsed { journal, end } = round_robin(alloc, begun(alloc, text)?);
+    let Rehearsed { journal, end } = round_robin(alloc, begun::<Module>(alloc, text)?);
     journal_is_ordered(&journal);
     journal_is_fulfilled(&journal);
     journal_is_bounded(&journal);
@@ -122,6 +130,49 @@ fn runs_by_rounds(rt: HostRuntime) -> Result<(), Fail> {
     Ok(())
 }
 
+/// The event at a place, where there is one.
+fn event_at<O: Ordering>(journal: &Journal<O>, place: u64) -> Option<Event> {
+    if place < journal.events().len() as u64 {
+        Some(*journal.event(place))
+    } else {
+        None
+    }
+}
+
+/// The call of thread 0 or 1 at the member of the same number, accepted as its first.
+fn accepted(thread: u8) -> Option<Event> {
+    Some(Event::Call {
+        thread,
+        index: 0,
+        member: MemberId::new(thread)?,
+        answer: Answer::Accepted(0),
+    })
+}
+
+/// A receipt on the link of a member to itself.
+fn received(at: u8) -> Option<Event> {
+    let to = MemberId::new(at)?;
+    Some(Event::Receive { from: to, to })
+}
+
+#[test]
+fn a_run_of_stamps_alone(rt: HostRuntime) -> Result<(), Fail> {
+    let alloc = rt.alloc();
+    let begun = begun::<LamportOrder>(alloc, STAMPS_OVERTAKEN)?;
+    let Rehearsed { journal, end } = round_robin(alloc, begun);
+    assert_eq!(rt; (end, journal.len()), (RehearsalEnd::Settled, 10));
+    assert_eq!(rt; event_at(&journal, 0), accepted(0));
+    assert_eq!(rt; event_at(&journal, 1), accepted(1));
+    assert_eq!(rt; event_at(&journal, 2), received(0));
+    assert_eq!(rt; event_at(&journal, 9), received(1));
+    assert!(rt; event_at(&journal, 10).is_none());
+    assert_eq!(rt;
+        longest(alloc, &journal)?.as_slice(),
+        [(0, 0, 0, false)].as_slice()
+    );
+    Ok(())
+}
+
 #[test]
 fn runs_of_consensus(rt: HostRuntime) -> Result<(), Fail> {
     let alloc = rt.alloc();
@@ -143,7 +194,7 @@ fn runs_of_consensus(rt: HostRuntime) -> Result<(), Fail> {
 #[test]
 fn runs_by_a_seed(rt: HostRuntime) -> Result<(), Fail> {
     let alloc = rt.alloc();
-    let Rehearsed { journal, end } = seeded(alloc, begun(alloc, CHANGE)?, 7);
+    let Rehearsed { journal, end } = seeded(alloc, begun::<Module>(alloc, CHANGE)?, 7);
     assert_eq!(rt; (end, quiet(&journal)), (RehearsalEnd::Settled, true));
     assert_eq!(rt; longest(alloc, &journal)?.len(), 3);
     Ok(())
@@ -209,7 +260,7 @@ fn receive_all(alloc: Global, journal: &mut Journal<Module>) -> Result<bool, Fai
 #[test]
 fn a_run_over_lines(rt: HostRuntime) -> Result<(), Fail> {
     let alloc = rt.alloc();
-    let mut journal = begun(alloc, TWO_SENDS)?;
+    let mut journal = begun::<Module>(alloc, TWO_SENDS)?;
     for thread in 0..2 {
         if thread < journal.plan().threads() {
             journal.call(alloc, thread).ok().ok_or("a call")?;
