@@ -9,6 +9,7 @@ use module_binding::Module;
 use order_trait::Ordering;
 use rehearsal::{RehearsalEnd, Rehearsed, round_robin, seeded};
 use run_journal::{Journal, serves};
+use run_report::report_text;
 use scenario::read;
 use std::alloc::Global;
 use std::test::*;
@@ -191,6 +192,27 @@ fn runs_of_consensus(rt: HostRuntime) -> Result<(), Fail> {
     Ok(())
 }
 
+const OVERTAKEN_REPORT: &str = "run: 2 members, 8 events, 2 of 2 calls
+answers: 2 accepted, 0 done, 0 full, 0 crashed
+member 0: version 1, lamport, up, 1 delivered
+  0 switch 0.0 lamport
+member 1: version 1, lamport, up, 1 delivered
+  0 switch 0.0 lamport
+overtaken switch 1.0 consensus
+";
+
+#[test]
+fn a_report(rt: HostRuntime) -> Result<(), Fail> {
+    let alloc = rt.alloc();
+    let Rehearsed { journal, .. } = round_robin(alloc, begun::<Module>(alloc, OVERTAKEN)?);
+    let long = report_text(alloc, &journal, false)?;
+    assert!(rt; long.as_slice() == OVERTAKEN_REPORT.as_bytes());
+    let short = report_text(alloc, &journal, true)?;
+    assert!(rt; short.as_slice().starts_with(b"run: 2 members"));
+    assert!(rt; short.len() < long.len());
+    Ok(())
+}
+
 #[test]
 fn runs_by_a_seed(rt: HostRuntime) -> Result<(), Fail> {
     let alloc = rt.alloc();
@@ -280,7 +302,7 @@ fn a_run_over_lines(rt: HostRuntime) -> Result<(), Fail> {
 #[test]
 fn a_change_to_each_kind(rt: HostRuntime) -> Result<(), Fail> {
     let alloc = rt.alloc();
-    let mut journal = begun(alloc, EACH_KIND)?;
+    let mut journal = begun::<Module>(alloc, EACH_KIND)?;
     for _ in 0..7 {
         if journal.plan().threads() > 0 {
             journal.call(alloc, 0).ok().ok_or("a call")?;
