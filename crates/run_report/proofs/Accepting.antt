@@ -1,6 +1,6 @@
 -- What was accepted has an origin among the members, and a number below the next of its origin.
-use Rattle.std.proofs.Common.{ℕ, zero, suc, ◌≡◌, ◌∙◌, ◌<◌, ◌++◌, List, [], ◌∷◌, ap, sym, subst, append-nil, reverse, inl, inr, get_or}
-use Rattle.std.specs.Prelude.{All, Contains, flat_map, length}
+use Rattle.std.proofs.Common.{ℕ, zero, suc, ◌≡◌, ◌∙◌, ◌<◌, List, [], ◌∷◌, ap, sym, subst, append-nil, reverse, inl, inr, get_or}
+use Rattle.std.specs.Prelude.{All, Contains, flat_map}
 use Rattle.std.proofs.lemmas.List.{reverse-reverse}
 use Rattle.std.proofs.lemmas.List.Elements.{All-contains_itself, Contains-append_cases}
 use Rattle.std.proofs.lemmas.Grind.{flat_map-append}
@@ -9,9 +9,9 @@ use Rattle.upd_base.specs.Item.{origin_of, number_of}
 use Rattle.upd_base.specs.Plan.{Planned}
 use Rattle.upd_base.specs.declared.item.Item.{Item}
 use Rattle.group_run.specs.Group.{Rules}
-use Rattle.group_run.specs.Run.{Events, IsGroupRun, group, moves_in, part}
+use Rattle.group_run.specs.Run.{Events, group, moves_in, part}
 use Rattle.group_run.specs.Ordered.{accepted_in}
-use Rattle.group_run.specs.Part.{below, is_logged}
+use Rattle.group_run.specs.Part.{below}
 use Rattle.group_run.proofs.Lists.{contains_filter, contains_reverse, nothing}
 use Rattle.group_laws.specs.Canon.{one_list}
 use Rattle.upd_base.specs.declared.entry.Entry.{Entry}

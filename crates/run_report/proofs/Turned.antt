@@ -1,11 +1,10 @@
 -- What doesn't hang on the order of a list.
-use Rattle.std.proofs.Common.{ℕ, Bool, true, false, zero, suc, ◌≡◌, ◌∙◌, ◌+◌, sym, ap, refl, arith, List, [], ◌∷◌, ◌++◌, reverse, length, append_assoc, append-nil, cond}
-use Rattle.std.specs.Prelude.{count_by, sum_by, flat_map, Option, Some, None, slice_get}
+use Rattle.std.proofs.Common.{ℕ, Bool, ◌≡◌, ◌∙◌, sym, ap, refl, arith, List, [], ◌∷◌, ◌++◌, reverse, append-nil, cond}
+use Rattle.std.specs.Prelude.{count_by, sum_by, flat_map, Option, Some, None}
 use Rattle.std.proofs.lemmas.List.{length-reverse, reverse-append}
 use Rattle.std.proofs.lemmas.Grind.{flat_map-append}
 use Rattle.std.proofs.lemmas.List.Sums.{sum_by-append, sum_by-cons}
 use Rattle.upd_base.specs.Plan.{Planned, planned, steps_in}
-use Rattle.upd_base.specs.declared.item.Item.{Item}
 use Rattle.upd_base.specs.declared.event.Event.{Event}
 use Rattle.upd_base.specs.declared.event.Event.TheVariants.{Call as CallEvent, Receive, Release}
 use Rattle.upd_base.specs.declared.call.Call.{Call}

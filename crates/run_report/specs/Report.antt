@@ -1,5 +1,5 @@
 -- The report of a run: the definition's reading of its plan and its events.
-use Rattle.std.specs.Prelude.{ℕ, Bool, true, false, ◌==◌, ◌&&◌, not, if◌then◌else◌, List, [], ◌∷◌, ◌++◌, ◌+◌, length, codes, count_by, decimal, flat_map, filter, reverse, sum_by}
+use Rattle.std.specs.Prelude.{ℕ, Bool, true, false, ◌==◌, ◌&&◌, not, if◌then◌else◌, List, [], ◌++◌, length, codes, count_by, decimal, flat_map, filter, reverse, sum_by}
 use Rattle.std.specs.List.{list_any}
 use Rattle.upd_base.specs.Item.{is_message, number_of, origin_of}
 use Rattle.upd_base.specs.Plan.{Planned, planned, steps_in}

@@ -1,14 +1,12 @@
 -- The planned calls that stand in a run.
-use Rattle.std.proofs.Common.{ℕ, zero, suc, ◌≡◌, ◌<◌, ◌≤◌, ◌+◌, ◌==◌, ◌&&◌, ◌⊎◌, ◌∙◌, inl, inr, Bool, true, false, cond, if◌then◌else◌, List, [], ◌∷◌, ◌++◌, length, Option, Some, None, refl, sym, ap, subst, arith, count_by, nat_lt, slice_get}
+use Rattle.std.proofs.Common.{ℕ, zero, suc, ◌≡◌, ◌<◌, ◌≤◌, ◌+◌, ◌==◌, ◌&&◌, ◌∙◌, inl, inr, Bool, true, false, cond, if◌then◌else◌, List, [], ◌∷◌, ◌++◌, Option, Some, None, refl, ap, arith, count_by, nat_lt, slice_get}
 use Rattle.std.specs.Prelude.{Contains}
-use Rattle.std.proofs.lemmas.Bool.{cases_lt, eqb-true}
+use Rattle.std.proofs.lemmas.Bool.{eqb-true}
 use Rattle.std.proofs.lemmas.Bool.Decides.{nat_tests}
 use Rattle.std.proofs.lemmas.List.Elements.{Contains-append_cases}
 use Rattle.std.proofs.lemmas.List.Sums.{sum_by-cons}
-use Rattle.std.proofs.lemmas.Option.{slice_get_within}
 use Rattle.upd_base.specs.Plan.{Planned, planned, step_in}
 use Rattle.upd_base.specs.declared.answer.Answer.{Answer}
-use Rattle.upd_base.specs.declared.answer.Answer.TheVariants as answers
 use Rattle.upd_base.specs.declared.call.Call.{Call as PlannedCall}
 use Rattle.upd_base.specs.declared.call.Call.TheVariants as calls
 use Rattle.upd_base.specs.declared.call.Step.{Step}

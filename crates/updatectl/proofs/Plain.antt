@@ -1,5 +1,5 @@
 -- From what was read of the source to what is promised of all its bytes.
-use Rattle.std.proofs.Common.{ℕ, ◌≡◌, ◌∙◌, ◌⊎◌, inl, inr, true, false, List, Option, Some, None, IfSome, Result, Ok, Err, sym, ap, subst}
+use Rattle.std.proofs.Common.{ℕ, ◌≡◌, ◌∙◌, ◌⊎◌, inl, inr, List, Option, Some, None, IfSome, Result, Ok, Err, sym, subst}
 use Rattle.upd_base.specs.Edge.{Rose}
 use Rattle.upd_base.specs.Plan.{Planned}
 use Rattle.scenario.specs.Reading.{reading}

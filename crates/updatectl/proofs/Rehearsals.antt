@@ -1,5 +1,5 @@
 -- What the journal of a rehearsal promises, and what its status says of its end.
-use Rattle.std.proofs.Common.{ℕ, ◌≡◌, ◌≤◌, ◌++◌, ◌⊎◌, inl, inr, List, [], Option, Result, Ok, Err, OnOk, OnErr, length, refl, sym, subst, arith}
+use Rattle.std.proofs.Common.{ℕ, ◌≡◌, inl, inr, List, [], Option, Result, Ok, Err, OnOk, OnErr, length, refl, sym, subst, arith}
 use Rattle.std.specs.Io.KnownBytes.{Appends}
 use Rattle.upd_base.specs.Plan.{Planned, bound}
 use Rattle.upd_base.specs.declared.edge.EdgeFault.{EdgeFault}

@@ -2,7 +2,6 @@
 use Rattle.std.specs.Prelude.{ℕ, Bool, false, true, ◌≡◌, ◌≤◌, ◌==◌, ◌&&◌, if◌then◌else◌, Some, List, [], ◌∷◌, ◌++◌, Contains, count_by}
 use Rattle.upd_base.specs.Plan.{Planned, planned}
 use Rattle.upd_base.specs.declared.answer.Answer.{Answer}
-use Rattle.upd_base.specs.declared.answer.Answer.TheVariants.{Accepted}
 use Rattle.upd_base.specs.declared.call.Call.{Call as PlannedCall}
 use Rattle.upd_base.specs.declared.call.Call.TheVariants as calls
 use Rattle.upd_base.specs.declared.call.Step.{Step}

@@ -1,4 +1,4 @@
-use Rattle.std.proofs.Common.{◌≡◌, ◌<◌, ◌∙◌, arith, subst, sym, ap}
+use Rattle.std.proofs.Common.{arith, ap}
 use Rattle.member_rules.specs.Kept.{rules_of}
 use Rattle.upd_base.specs.Item.{origin_of, number_of}
 use Rattle.run_journal.specs.Asked.{accepted_by}

@@ -1,8 +1,7 @@
-use Rattle.std.proofs.Common.{◌≡◌, ◌≤◌, ◌+◌, arith, take, length, []}
-use Rattle.std.specs.List.{sum_by}
+use Rattle.std.proofs.Common.{◌+◌, arith, []}
 use Rattle.std.proofs.lemmas.List.Sums.{sum_by_more, sum_by-take-le}
 use Rattle.std.proofs.lemmas.Option.{unwrap_or-slice_get}
-use Rattle.upd_base.specs.Plan.{steps_in, steps_of}
+use Rattle.upd_base.specs.Plan.{steps_in}
 use Rattle.upd_base.proofs.PlanFacts.{plan_facts}
 use Rattle.run_report.proofs.counts.planned.Goals as goal
 

@@ -1,4 +1,4 @@
-use Rattle.std.proofs.Common.{◌≡◌, arith}
+use Rattle.std.proofs.Common.{arith}
 use Rattle.upd_base.proofs.PlanFacts.{plan_facts}
 use Rattle.run_journal.specs.Journal.{plan_of}
 use Rattle.run_report.proofs.text.put_member.Goals as goal

@@ -1,4 +1,4 @@
-use Rattle.std.proofs.Common.{◌≡◌, List, ℕ, OnOk, OnErr, sym, subst}
+use Rattle.std.proofs.Common.{List, ℕ, OnOk, OnErr, sym, subst}
 use Rattle.std.specs.Io.KnownBytes.{Appends}
 use Rattle.upd_io.specs.Whole.{AppendsLess}
 use Rattle.run_journal.specs.Journal.{plan_of, past_of}
