@@ -1,4 +1,4 @@
--- A settled quiet run has every accepted message in every log, and one version.
+-- A quiet run at rest has every accepted message in every log, and one version.
 use Rattle.std.proofs.Common.{ℕ, zero, suc, ◌≡◌, ◌<◌, ◌≤◌, ◌==◌, inl, inr, Bool, true, false, List, [], ◌∷◌, ◌++◌, length, refl, sym, ◌∙◌, ap, subst, arith, Option, Some, None, IsSome, append-nil}
 use Rattle.std.specs.Prelude.{Contains, slice_get, is_some, if◌then◌else◌, nat_le}
 use Rattle.std.proofs.lemmas.Bool.{cases_lt}
@@ -17,10 +17,11 @@ use Rattle.group_run.specs.Version.{ends, segment, next_kind, kind_at, newest}
 use Rattle.group_run.specs.Held.{first_ready}
 use Rattle.group_run.specs.Turn.{member_sends}
 use Rattle.group_run.specs.Link.{bodies_of, held_from, processed_from}
-use Rattle.group_run.specs.Run.{Events, Moves, group, moves_in, next_frame, part, turn_at}
-use Rattle.group_run.specs.Settled.{IsSettled, IsLogged}
+use Rattle.group_run.specs.Run.{Events, IsReceipt, IsRelease, Moves, group, moves_in, next_frame, part, turn_at}
+use Rattle.group_run.specs.Settled.{IsLogged}
 use Rattle.group_run.specs.Projection.{projection}
 use Rattle.group_run.specs.Laws.{FulfilsAll, FulfilsRuns}
+use Rattle.group_fulfilment.specs.AtRest.{FulfilsAtRest}
 use Rattle.group_run.proofs.Lists.{tested, eqb_other}
 use Rattle.group_versions.proofs.Versions.{seg_at, kind_at-served, has_ended-at, next_kind-found}
 use Rattle.group_run.proofs.Inputs.{one_of}
@@ -97,12 +98,13 @@ none_held w (x ∷ held) e i v h = elim (tested (nat_le x.1.version w)) [
       ]
 ]
 
--- A settled quiet run ------------------------------------------------------------------------------------------------
+-- A quiet run at rest ------------------------------------------------------------------------------------------------
 
 -- what is known of one
 pub record Rest (rules : Rules) (plan : Planned) (past : Events) : Type 0 where
   pub facts : RunFacts rules plan past
-  pub settled : IsSettled rules plan past
+  pub receipts : (from to : ℕ) → IsReceipt rules plan past from to → ⊥
+  pub releases : (at : ℕ) → IsRelease rules plan past at → ⊥
   pub quiet : QuietRun true (group rules plan) (moves_in rules plan past)
   pub fulfils : FulfilsAll rules
 
@@ -115,10 +117,10 @@ all_taken rules plan past t i j v hi hj vj =
     let p : Part = part rules plan past j in
     let up = (t.quiet.parts j).up refl in
     let parts = link_parts g ms (moves_run g plan past) i j v in
-    let next : next_frame rules plan past i j ≡ None = none_of (next_frame rules plan past i j) (λ s. t.settled.receipts i j (record { from_member = hi; to_member = hj; up = up; frame = s })) in
+    let next : next_frame rules plan past i j ≡ None = none_of (next_frame rules plan past i j) (λ s. t.receipts i j (record { from_member = hi; to_member = hj; up = up; frame = s })) in
     let took : List Frame = taken_on i j ms in
     let unread : parts.0 ≡ [] = nothing_left took parts.0 (sym (ap (λ xs. slice_get xs (length took)) parts.1) ∙ next) in
-    let ready : first_ready (version p) p.held ≡ None = none_of (first_ready (version p) p.held) (λ s. t.settled.releases j (record { member = hj; up = up; ready = s })) in
+    let ready : first_ready (version p) p.held ≡ None = none_of (first_ready (version p) p.held) (λ s. t.releases j (record { member = hj; up = up; ready = s })) in
     let len = newest-length p.modules (one_of g j (inputs_of j ms)) in
     let held : held_from i v p.held ≡ [] = none_held (version p) p.held ready i v (omega arith) in
     parts.2
@@ -203,9 +205,9 @@ logged_everywhere rules plan past t u i hi ui o m text c j hj =
       | inr le ↦ logged_newest rules plan past t u i hi (omega arith) o m text (segment_sent g a f.law s i u hi ui (f.short u) (Msg o m text) c) j hj
     ]
 
-pub fulfils_runs : FulfilsRuns
-fulfils_runs = λ rules k fa plan s past r st q.
-    let t : Rest rules plan past = record { facts = run_facts rules k plan s past r; settled = st; quiet = quiet_run rules plan past r.enabled q; fulfils = fa } in
+pub fulfils_at_rest : FulfilsAtRest
+fulfils_at_rest = λ rules k fa plan s past r receipts releases q.
+    let t : Rest rules plan past = record { facts = run_facts rules k plan s past r; receipts = receipts; releases = releases; quiet = quiet_run rules plan past r.enabled q; fulfils = fa } in
     let g : Group = group rules plan in
     let ms : Moves = moves_in rules plan past in
     let w = t.facts.kept.sound in
@@ -236,3 +238,6 @@ fulfils_runs = λ rules k fa plan s past r st q.
           let b = reached_all rules plan past t (newest (part rules plan past j).modules) j hj (omega arith) i hi in
           omega arith;
     }
+
+pub fulfils_runs : FulfilsRuns
+fulfils_runs = λ rules k fa plan s past r st q. fulfils_at_rest rules k fa plan s past r st.receipts st.releases q

@@ -2,6 +2,7 @@
 #![tactic(auto)]
 
 ghost use Rattle.group_run.specs.Laws.{FulfilsRuns};
+ghost use Rattle.group_fulfilment.specs.AtRest.{FulfilsAtRest};
 
 /// For kinds that keep agreement, integrity and fulfilment: a settled quiet run has every accepted message in every log,
 /// and all members have one version.
@@ -13,4 +14,9 @@ ghost use Rattle.group_run.specs.Laws.{FulfilsRuns};
 /// delivered is in every log.
 pub fn settled_quiet_runs_are_fulfilled()
     ensures { FulfilsRuns }
+{}
+
+/// The same of a quiet run in which nothing can be received or released, also where calls are left.
+pub fn quiet_runs_at_rest_are_fulfilled()
+    ensures { FulfilsAtRest }
 {}

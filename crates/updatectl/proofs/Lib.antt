@@ -1,6 +1,5 @@
 pub mod Read
 pub mod Seeds
 pub mod Serves
-pub mod Calls
 pub mod Rehearsals
 pub mod Plain

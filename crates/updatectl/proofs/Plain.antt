@@ -4,7 +4,7 @@ use Rattle.upd_base.specs.Edge.{Rose}
 use Rattle.upd_base.specs.Plan.{Planned}
 use Rattle.scenario.specs.Reading.{reading}
 use Rattle.scenario.specs.declared.fault.ScenarioFault.{ScenarioFault}
-use Rattle.updatectl.specs.Calls.{HasNo, is_suspect}
+use Rattle.planned_calls.specs.Calls.{HasNo, is_suspect}
 use Rattle.updatectl.specs.Causes.{IsWriting, OrMemory, PlanFrom}
 use Rattle.updatectl.specs.declared.outcome.Status.{Status}
 use Rattle.updatectl.specs.declared.outcome.Status.TheVariants as statuses
@@ -13,26 +13,18 @@ use Rattle.updatectl.specs.declared.outcome.Status.TheVariants as statuses
 same_plan : {r : Result Planned ScenarioFault} {p q : Planned} → r ≡ Ok p → r ≡ Ok q → p ≡ q
 same_plan e f = cc
 
--- A plan was read -------------------------------------------------------------------------------------------------
-
-pub plan_refused : (old : Option (List ℕ)) (p : Planned) (status : Status) → IfSome old (λ all. reading all ≡ Ok p)
-    → IfSome old (λ all. (f : ScenarioFault) → reading all ≡ Err f → OrMemory status (statuses.Scenario f) ⊎ (status ≡ statuses.SourceFailed))
-plan_refused None p status read = tt
-plan_refused (Some all) p status read = λ f e. absurd (let q : Ok p ≡ Err f = sym read ∙ e in cc)
-
-pub plan_written : (old : Option (List ℕ)) (p : Planned) (status : Status) → IsWriting status
-    → IfSome old (λ all. (q : Planned) → reading all ≡ Ok q → IsWriting status ⊎ (status ≡ statuses.SourceFailed))
-plan_written None p status writing = tt
-plan_written (Some all) p status writing = λ q e. inl writing
-
+-- a plan was read
 pub plan_complete : (old : Option (List ℕ)) (p : Planned) (status : Status) (Source Sink : Type 0) → IfSome old (λ all. reading all ≡ Ok p)
     → (HasNo is_suspect p → (Sink → ⊥) → OrMemory status statuses.Done)
     → IfSome old (λ all. (q : Planned) → reading all ≡ Ok q → HasNo is_suspect q → (Source → ⊥) → (Sink → ⊥) → OrMemory status statuses.Done)
 plan_complete None p status Source Sink read ends = tt
 plan_complete (Some all) p status Source Sink read ends = λ q e without steady holds. ends (subst (HasNo is_suspect) (sym (same_plan read e)) without) holds
 
--- None was --------------------------------------------------------------------------------------------------------
+pub plan_written : (old : Option (List ℕ)) (status : Status) → IsWriting status → IfSome old (λ all. (q : Planned) → reading all ≡ Ok q → IsWriting status ⊎ (status ≡ statuses.SourceFailed))
+plan_written None status writing = tt
+plan_written (Some all) status writing = λ q e. inl writing
 
+-- none was
 pub none_refused : (given status : Status) (before now : ℕ) (old new : Option (List ℕ)) → PlanFrom (Err given) before now old new → OrMemory status given
     → IfSome old (λ all. (f : ScenarioFault) → reading all ≡ Err f → OrMemory status (statuses.Scenario f) ⊎ (status ≡ statuses.SourceFailed))
 none_refused given status before now None new from or = tt

@@ -1,27 +1,24 @@
 -- What the journal of a rehearsal promises, and what its status says of its end.
-use Rattle.std.proofs.Common.{ℕ, ◌≡◌, inl, inr, List, [], Option, Result, Ok, Err, OnOk, OnErr, length, refl, sym, subst, arith}
+use Rattle.std.proofs.Common.{ℕ, ◌≡◌, ◌∙◌, inl, inr, List, [], Option, Result, Ok, Err, OnOk, OnErr, append-nil, refl, sym, subst}
 use Rattle.std.specs.Io.KnownBytes.{Appends}
-use Rattle.upd_base.specs.Plan.{Planned, bound}
+use Rattle.upd_base.specs.Plan.{Planned}
 use Rattle.upd_base.specs.declared.edge.EdgeFault.{EdgeFault}
 use Rattle.upd_base.specs.declared.edge.EdgeFault.TheVariants as faults
-use Rattle.upd_io.specs.Whole.{AppendsLess, AppendsPrefix}
-use Rattle.group_run.specs.Run.{Events, IsGroupRun}
-use Rattle.group_run.specs.Ordered.{IsOrdered}
-use Rattle.group_run.specs.Settled.{IsFulfilled, IsQuiet, IsSettled, IsTrusting}
+use Rattle.upd_io.specs.Whole.{AppendsLess}
+use Rattle.group_run.specs.Run.{Events}
 use Rattle.rehearsal.specs.Ends.{EndsAt}
+use Rattle.rehearsal.specs.FullAtRest.{FullAtRest, GoesOnFullAtRest}
 use Rattle.rehearsal.specs.declared.rehearsed.RehearsalEnd.{RehearsalEnd}
 use Rattle.rehearsal.specs.declared.rehearsed.RehearsalEnd.TheVariants as ends
-use Rattle.updatectl.specs.Calls.{HasNo, is_suspect}
 use Rattle.updatectl.specs.Causes.{CameBy, IsAfter, IsAt, IsWriting, OrMemory, WroteRun, status_of}
 use Rattle.updatectl.specs.Recorded.{CameTo, scheduled, the_rules}
-use Rattle.updatectl.specs.Rehearsal.{FollowsSchedule, IsRehearsalOf}
+use Rattle.updatectl.specs.Rehearsal.{FollowsSchedule, IsRehearsalOf, KeepsLaws}
 use Rattle.updatectl.specs.Texts.{run_text}
 use Rattle.updatectl.specs.declared.words.Form.{Form}
 use Rattle.updatectl.specs.declared.run_end.End.{End}
 use Rattle.updatectl.specs.declared.run_end.End.TheVariants.{Settled, Spent}
 use Rattle.updatectl.specs.declared.outcome.Status.{Status}
 use Rattle.updatectl.specs.declared.outcome.Status.TheVariants as statuses
-use Rattle.updatectl.proofs.Calls.{makes_each, makes_planned, trusting}
 
 -- Statuses ------------------------------------------------------------------------------------------------------
 
@@ -60,8 +57,7 @@ pub wrote : (form : Form) (plan : Planned) (past : Events) (end : End) (text : L
 wrote form plan past Settled text (Ok x) old new came is whole less = (came, subst (λ t. Appends old new t) is whole)
 wrote form plan past Spent text (Ok x) old new came is whole less = (came, subst (λ t. Appends old new t) is whole)
 wrote form plan past end text (Err faults.Failed) old new came is whole less = (end, came, subst (λ t. AppendsLess old new t) is less)
-wrote form plan past end text (Err faults.NoMemory) old new came is whole less =
-    inr (end, came, subst (λ t. AppendsPrefix old new t) is (less.0, (let lt = less.1 in omega arith), less.2))
+wrote form plan past end text (Err faults.NoMemory) old new came is whole less = inr (end, came, subst (λ t. AppendsLess old new t) is less)
 
 -- Rehearsals ----------------------------------------------------------------------------------------------------
 
@@ -75,28 +71,30 @@ settled_of status plan past whole f e =
     let at : EndsAt the_rules plan ends.Settled past whole = subst (λ s. FollowsSchedule s plan past whole) e f in
     at.1
 
-pub rehearsal_is : (seed : Option ℕ) (end : RehearsalEnd) (status : Status) (plan : Planned) (past : Events) → IsGroupRun the_rules plan past → IsOrdered the_rules plan past
-    → (IsSettled the_rules plan past → IsQuiet plan past → IsFulfilled the_rules plan past) → (IsTrusting plan past → length past ≡ bound plan → IsSettled the_rules plan past)
+-- a start with no events
+full_of : (plan : Planned) (past : Events) → GoesOnFullAtRest the_rules plan [] past → FullAtRest the_rules plan [] past
+full_of plan past g = subst (FullAtRest the_rules plan []) (sym (g.1 ∙ append-nil g.0)) g.2
+
+pub rehearsal_is : (seed : Option ℕ) (end : RehearsalEnd) (status : Status) (plan : Planned) (past : Events) → KeepsLaws plan past → GoesOnFullAtRest the_rules plan [] past
     → EndsAt the_rules plan end past (scheduled seed plan) → IsAfter end status → IsRehearsalOf seed status plan past
-rehearsal_is seed end status plan past run ordered fulfilled bounded at after =
+rehearsal_is seed end status plan past laws full at after =
     let f = follows end status plan past (scheduled seed plan) after at in
+    let settled = settled_of status plan past (scheduled seed plan) f in
+    let spent = spent_of status plan past (scheduled seed plan) f in
     record {
-      run = run;
+      laws = laws;
       schedule = f;
-      ordered = ordered;
-      planned = makes_planned the_rules plan past run;
-      each = λ e. makes_each the_rules plan past run (settled_of status plan past (scheduled seed plan) f e);
-      settled = settled_of status plan past (scheduled seed plan) f;
-      spent = spent_of status plan past (scheduled seed plan) f;
-      suspected = λ e t. let s = spent_of status plan past (scheduled seed plan) f e in s.1 (bounded t s.0);
-      fulfilled = fulfilled;
-      bounded = bounded;
+      settled = settled;
+      each = λ e. laws.each (settled e);
+      delivered = λ e without up. laws.delivers (full_of plan past full) (settled e) (laws.quiet without up);
+      spent = spent;
+      suspected = λ e t. let s = spent e in s.1 (laws.bounded t s.0);
     }
 
--- A run without suspicion ends with status 0, where the sink does not fail and memory suffices.
-pub complete : (status : Status) (plan : Planned) (past : Events) (Rises : Type 0) → IsWriting status → (status ≡ statuses.SinkFailed → Rises) → (status ≡ statuses.TurnsSpent → IsTrusting plan past → ⊥)
-    → HasNo is_suspect plan → (Rises → ⊥) → OrMemory status statuses.Done
-complete status plan past Rises (inl e) rose suspected without holds = inl e
-complete status plan past Rises (inr (inl e)) rose suspected without holds = absurd (holds (rose e))
-complete status plan past Rises (inr (inr (inl e))) rose suspected without holds = absurd (suspected e (trusting plan past without))
-complete status plan past Rises (inr (inr (inr e))) rose suspected without holds = inr e
+-- A run whose turns are not spent ends with status 0, where the sink does not fail and memory suffices.
+pub complete : (status : Status) (Rises : Type 0) → IsWriting status → (status ≡ statuses.SinkFailed → Rises) → (status ≡ statuses.TurnsSpent → ⊥)
+    → (Rises → ⊥) → OrMemory status statuses.Done
+complete status Rises (inl e) rose few holds = inl e
+complete status Rises (inr (inl e)) rose few holds = absurd (holds (rose e))
+complete status Rises (inr (inr (inl e))) rose few holds = absurd (few e)
+complete status Rises (inr (inr (inr e))) rose few holds = inr e

@@ -67,12 +67,12 @@ PlanFrom (Err statuses.TurnsSpent) before now old new = ⊥
 -- Runs ----------------------------------------------------------------------------------------------------------
 
 -- What the sink got of a run's text, which ends with the line of the run's end: all of it, or at a fault of the sink a
--- prefix. At want of memory a prefix, or nothing where there was no text yet.
+-- prefix that is not all of it. At want of memory such a prefix too, or nothing where there was no text yet.
 abbrev pub WroteRun : Status → Form → Planned → Events → Option (List ℕ) → Option (List ℕ) → Type 0
 WroteRun statuses.Done form plan past old new = CameTo Settled plan past × Appends old new (run_text form plan past Settled)
 WroteRun statuses.TurnsSpent form plan past old new = CameTo Spent plan past × Appends old new (run_text form plan past Spent)
 WroteRun statuses.SinkFailed form plan past old new = (end : End) × CameTo end plan past × AppendsLess old new (run_text form plan past end)
-WroteRun statuses.NoMemory form plan past old new = Keeps old new ⊎ ((end : End) × CameTo end plan past × AppendsPrefix old new (run_text form plan past end))
+WroteRun statuses.NoMemory form plan past old new = Keeps old new ⊎ ((end : End) × CameTo end plan past × AppendsLess old new (run_text form plan past end))
 WroteRun statuses.Words form plan past old new = ⊥
 WroteRun statuses.SourceFailed form plan past old new = ⊥
 WroteRun (statuses.Scenario fault) form plan past old new = ⊥

@@ -40,6 +40,7 @@ fn run(
 #[test]
 fn statuses(rt: HostRuntime) -> Result<(), Fail> {
     let alloc = rt.alloc();
+    let paxos = "{\"members\":1,\"first\":\"paxos\",\"threads\":[[]]}";
     let (status, text) = run(alloc, &["rehearse", "7", "short"], ROW, &[], &[])?;
     assert_eq!(rt; (status, text.as_str()), (0, SHORT));
     let (status, text) = run(alloc, &["rehearse", "short"], ROW, &[2], &[])?;
@@ -48,6 +49,11 @@ fn statuses(rt: HostRuntime) -> Result<(), Fail> {
     assert_eq!(rt; (status, text.as_str()), (4, "run: 3 mem"));
     let (status, text) = run(alloc, &["rehearse"], "{\"members\":8}", &[], &[2])?;
     assert_eq!(rt; (status, text.as_str()), (5, "scena"));
+    let (status, text) = run(alloc, &["rehearse"], paxos, &[], &[])?;
+    assert_eq!(rt;
+        (status, text.as_str()),
+        (5, "scenario refused at /first: bad kind\n")
+    );
     Ok(())
 }
 

@@ -8,7 +8,7 @@ ghost use Rattle.scenario.specs.declared.fault.ScenarioFault.{ScenarioFault};
 ghost use Rattle.run_journal.specs.Journal.{plan_of, past_of};
 ghost use Rattle.updatectl.specs.Words.{command};
 ghost use Rattle.updatectl.specs.Recorded.{CameTo};
-ghost use Rattle.updatectl.specs.Calls.{HasNo, is_suspect};
+ghost use Rattle.planned_calls.specs.Calls.{HasNo, is_suspect};
 ghost use Rattle.updatectl.specs.Rehearsal.{IsRehearsalOf};
 ghost use Rattle.updatectl.specs.Texts.{refusal_text};
 ghost use Rattle.updatectl.specs.Causes.{CameBy, IsAfter, IsAt, IsRefusal, IsWriting, OrMemory, PlanFrom, RefusalCause, Told, WroteRun, refused, status_at, status_of};
@@ -166,7 +166,7 @@ fn refused(fault: ScenarioFault) -> Status
 
 /// Runs a plan and writes its text.
 fn run<K: Sink>(alloc: Global, asked: Rehearse, plan: Plan, sink: &mut K) -> Outcome<NoLine>
-    ensures writing { IsWriting result.status }
+    ensures status { IsWriting result.status }
     ensures there { OrMemory result.status Status.NoMemory ⊎ IsSome result.journal }
     ensures plan { IfSome result.journal (λ j. plan_of j ≡ plan) }
     ensures rehearsal { IfSome result.journal (λ j. IsRehearsalOf asked.seed result.status (plan_of j) (past_of j)) }
@@ -217,7 +217,7 @@ pub fn plain<S: Source, K: Sink>(
     ensures source_failed { result.status ≡ Status.SourceFailed → Rose (S.faults source.old) (S.faults source.new) }
     // SinkFailed: only where the sink's faults rose.
     ensures sink_failed { result.status ≡ Status.SinkFailed → Rose (K.faults sink.old) (K.faults sink.new) }
-    // Scenario: exactly where the reading of the bytes is that fault.
+    // Scenario: exactly where the bytes read as that fault.
     ensures scenario { (f : ScenarioFault) → result.status ≡ Status.Scenario f → IfSome (S.left source.old) (λ all. reading all ≡ Err f) }
     ensures scenario_only { IsSome (command (map string_bytes words.now)) → IfSome (S.left source.old) (λ all. (f : ScenarioFault) → reading all ≡ Err f
         → OrMemory result.status (Status.Scenario f) ⊎ (result.status ≡ Status.SourceFailed)) }

@@ -1,12 +1,9 @@
 use Rattle.upd_base.specs.Edge.{Rose}
-use Rattle.updatectl.proofs.Plain.{none_complete, none_refused, plan_complete, plan_refused, plan_written}
+use Rattle.updatectl.proofs.Plain.{none_complete, none_refused, plan_complete, plan_written}
 use Rattle.updatectl.proofs.top.plain.Goals as goal
 
-pub returns-in-Ok-clause-scenario_only : goal.returns-in-Ok-clause-scenario_only
-returns-in-Ok-clause-scenario_only g c = λ words. plan_refused (g.S.Source.left c.args.source.now) c.in-Ok.plan c.run.result.status c.in-Ok.ensures.0
-
 pub returns-in-Ok-clause-run_only : goal.returns-in-Ok-clause-run_only
-returns-in-Ok-clause-run_only g c = λ words. plan_written (g.S.Source.left c.args.source.now) c.in-Ok.plan c.run.result.status c.run.ensures.writing
+returns-in-Ok-clause-run_only g c = λ words. plan_written (g.S.Source.left c.args.source.now) c.run.result.status c.run.ensures.status
 
 pub returns-in-Ok-clause-complete : goal.returns-in-Ok-clause-complete
 returns-in-Ok-clause-complete g c = λ words.

@@ -17,7 +17,7 @@ use Rattle.group_run.specs.Part.{below}
 use Rattle.group_run.specs.Run.{Events, AreEnabled, IsCall, IsGroupRun, calls_made}
 use Rattle.group_run.specs.Settled.{IsQuiet, IsSettled, IsTrusting, is_loud, is_made, is_suspicion}
 use Rattle.group_run.proofs.Lists.{nothing, only}
-use Rattle.updatectl.specs.Calls.{HasNo, MakesEach, MakesPlanned, is_call_at, is_crash, is_suspect, places_of}
+use Rattle.planned_calls.specs.Calls.{HasNo, MakesEach, MakesPlanned, is_call_at, is_crash, is_suspect, places_of}
 
 -- an enabled call is the planned one of its place, the next of its thread
 enabled_call : (rules : Rules) (plan : Planned) (past : Events) (thread index member : ℕ) (given : Answer) (o : Option Step) → IsCall rules plan past thread index member given o
@@ -111,7 +111,7 @@ there (x ∷ xs) i zero s e none = absurd (let no : Some x ≡ None = none in cc
 there (x ∷ xs) zero (suc n) s e none = omega arith
 there (x ∷ xs) (suc i) (suc n) s e none = let lt = there xs i n s e none in omega arith
 
-before_end : (o : Option (List Step)) (i n : ℕ) (s : Step) → step_in o i ≡ Some s → step_in o n ≡ None → i < n
+pub before_end : (o : Option (List Step)) (i n : ℕ) (s : Step) → step_in o i ≡ Some s → step_in o n ≡ None → i < n
 before_end None i n s e none = absurd (let no : None ≡ Some s = e in cc)
 before_end (Some steps) i n s e none = there steps i n s e none
 
