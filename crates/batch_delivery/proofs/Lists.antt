@@ -13,11 +13,10 @@ use Rattle.consensus_rules.specs.Waiting.{insert, insert_all, in_order}
 use Rattle.consensus_rules.specs.Delivered.{items_of}
 use Rattle.consensus_rules.proofs.Known.{has_its_id, knows_self}
 use Rattle.consensus_rules.proofs.Delivered.{add_new_append}
-use Rattle.waiting_items.specs.Ids.{id_cmp, without}
-use Rattle.batch_delivery.specs.Delivery.{AreIdsOf, apart_from, news}
-use Rattle.std.specs.BTreeSet.{BTreeSet, contains}
-use Rattle.std.specs.BTreeMap.{is_at}
-use Rattle.waiting_items.proofs.Ids.{is_at_id}
+use Rattle.number_runs.specs.Runs.{holds, is_pair}
+use Rattle.number_runs.specs.declared.runs.Run.{Run}
+use Rattle.waiting_items.specs.Ids.{apart_from}
+use Rattle.batch_delivery.specs.Delivery.{AreIdsOf, news}
 
 -- what add_new adds
 pub news_added : (known xs : Items) → add_new known xs ≡ known ++ news known xs
@@ -112,17 +111,6 @@ turned x y =
         | inr g ↦ f ∙ sym g
       ])
     ]
-
--- without the first
-pub apart_first : (x : Item) (xs items : Items) → apart_from xs (without (id_of x) items) ≡ apart_from (x ∷ xs) items
-apart_first x xs items =
-    keep_twice (λ y. not (has_id (id_of x) y)) (λ y. not (knows xs y)) items
-    ∙ keep_same (λ y. not (has_id (id_of x) y) && not (knows xs y)) (λ y. not (knows (x ∷ xs) y))
-    (λ y. ap (λ b. not b && not (knows xs y)) (turned x y) ∙ both (has_id (id_of y) x) (knows xs y)) items
-  where
-    both : (a b : Bool) → (not a && not b) ≡ not (a || b)
-    both true b = refl
-    both false b = refl
 
 -- Sorted insertion: no item stands before an earlier one.
 abbrev Follows : Item → Items → Type 0
@@ -315,15 +303,14 @@ items_more bs b =
     ap (add_new []) (flat_map-append (λ b. b) bs (b ∷ []) ∙ ap (λ l. flat_map (λ b. b) bs ++ l) (append-nil b)) ∙ add_new_append [] (flat_map (λ b. b) bs) b
 
 -- the origins and numbers with one more
-pub ids_more : (ids new : BTreeSet (ℕ × ℕ)) (key : ℕ × ℕ) (known : Items) (x : Item) → key ≡ id_of x
-    → ((q : ℕ × ℕ) → contains id_cmp new q ≡ cond (is_at (id_cmp key) q) true (contains id_cmp ids q)) → AreIdsOf ids known → AreIdsOf new (add_new known (x ∷ []))
+pub ids_more : (ids new : List Run) (key : ℕ × ℕ) (known : Items) (x : Item) → key ≡ id_of x
+    → ((q : ℕ × ℕ) → holds new q ≡ (is_pair key q || holds ids q)) → AreIdsOf ids known → AreIdsOf new (add_new known (x ∷ []))
 ids_more ids new key known x is adds old = λ y.
-    adds (id_of y) ∙ ap (λ k. cond (is_at (id_cmp k) (id_of y)) true (contains id_cmp ids (id_of y))) is
-    ∙ ap (λ b. cond b true (contains id_cmp ids (id_of y))) (is_at_id (id_of x) (id_of y, y) refl ∙ turned x y)
-    ∙ ap (λ b. cond (has_id (id_of y) x) true b) (old y)
-    ∙ swap (has_id (id_of y) x) (knows known y) ∙ sym (knows_one known x y)
+    adds (id_of y) ∙ ap (λ k. is_pair k (id_of y) || holds ids (id_of y)) is
+    ∙ ap (λ b. is_pair (id_of x) (id_of y) || b) (old y)
+    ∙ swap (is_pair (id_of x) (id_of y)) (knows known y) ∙ sym (knows_one known x y)
   where
-    swap : (a b : Bool) → cond a true b ≡ (b || a)
+    swap : (a b : Bool) → (a || b) ≡ (b || a)
     swap true true = refl
     swap true false = refl
     swap false true = refl

@@ -2,9 +2,8 @@
 use Rattle.std.proofs.Common.{ℕ, zero, suc, ◌+◌, ◌^◌, ◌≡◌, ◌<◌, ◌≤◌, inl, inr, true, List, [], ◌∷◌, ◌++◌, length, take, Option, Some, None, refl, sym, ap, ◌∙◌, subst, arith, length-append}
 use Rattle.std.specs.Ordering.{nat_cmp}
 use Rattle.std.specs.BTreeMap.{get}
-use Rattle.std.specs.BTreeSet.{contains}
+use Rattle.number_runs.specs.Runs.{holds}
 use Rattle.upd_base.specs.Item.{id_of}
-use Rattle.waiting_items.specs.Ids.{id_cmp}
 use Rattle.std.specs.Option.{is_some}
 use Rattle.std.proofs.Math.Seq.{take-append_seam}
 use Rattle.std.proofs.lemmas.Bool.{cases_lt}
@@ -102,7 +101,7 @@ later d e items ds es same_count same_ids same_waiting ahead low s = record {
   reached = (let a : length (batches ds) ≤ length (batches (ds ++ es)) = reach_less ds es in let b : d.count ≡ length (batches ds) = s.all in omega (arith, a, b, same_count));
   known_are = ap items_of (sym (front_same ds es) ∙ ap (λ c. take c (batches (ds ++ es))) (sym s.all ∙ sym same_count));
   ahead = λ k lt. ahead k (subst (λ c. c < k) same_count lt);
-  ids = λ x. ap (λ i. contains id_cmp i (id_of x)) same_ids ∙ s.up_to.ids x;
+  ids = λ x. ap (λ i. holds i (id_of x)) same_ids ∙ s.up_to.ids x;
   waiting = same_waiting ∙ s.up_to.waiting;
   numbered = λ k le. decision_or k ds es ∙ ap (λ o. or_else o (decision k es)) (s.up_to.numbered k le) ∙ low k le;
 }

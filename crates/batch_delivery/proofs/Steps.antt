@@ -2,7 +2,7 @@
 use Rattle.std.proofs.Common.{ℕ, ◌+◌, ◌≡◌, ◌<◌, ◌≤◌, inl, inr, true, false, List, [], ◌∷◌, ◌++◌, length, take, Some, None, sym, ap, ◌∙◌, subst, arith, append_assoc}
 use Rattle.std.specs.Ordering.{nat_cmp}
 use Rattle.std.specs.BTreeMap.{get}
-use Rattle.std.specs.BTreeSet.{contains}
+use Rattle.number_runs.specs.Runs.{holds}
 use Rattle.std.proofs.lemmas.Bool.{cases_lt}
 use Rattle.std.proofs.lemmas.List.{append_cancel_left}
 use Rattle.upd_base.specs.Item.{id_of}
@@ -12,8 +12,8 @@ use Rattle.consensus_rules.specs.Items.{knows, add_new}
 use Rattle.consensus_rules.specs.Delivered.{decision, batches, items_of}
 use Rattle.consensus_rules.specs.Instances.{last_instance}
 use Rattle.consensus_rules.specs.Waiting.{insert, in_order}
-use Rattle.waiting_items.specs.Ids.{id_cmp}
-use Rattle.batch_delivery.specs.Delivery.{AreIdsOf, IsUpTo, StandsFor, apart_from, news}
+use Rattle.waiting_items.specs.Ids.{apart_from}
+use Rattle.batch_delivery.specs.Delivery.{AreIdsOf, IsUpTo, StandsFor, news}
 use Rattle.batch_delivery.specs.declared.delivery.Delivery.{Delivery}
 use Rattle.batch_delivery.proofs.Lists.{waits_too, waits_not, waiting_left, items_more, news_added}
 use Rattle.batch_delivery.proofs.Reach.{goes_on, stops_here, take_whole}
@@ -25,7 +25,7 @@ module _ (d e : Delivery) (items : Items) (ds : List (ℕ × Items)) (x : Item) 
       reached = subst (λ c. c ≤ length (batches ds)) (sym count_same) s.up_to.reached;
       known_are = s.up_to.known_are ∙ ap (λ c. items_of (take c (batches ds))) (sym count_same);
       ahead = λ k lt. ap (λ m. get nat_cmp m k) ahead_same ∙ s.up_to.ahead k (subst (λ c. c < k) count_same lt);
-      ids = λ y. ap (λ i. contains id_cmp i (id_of y)) ids_same ∙ s.up_to.ids y;
+      ids = λ y. ap (λ i. holds i (id_of y)) ids_same ∙ s.up_to.ids y;
       waiting = w;
       numbered = s.up_to.numbered;
     };
@@ -33,11 +33,11 @@ module _ (d e : Delivery) (items : Items) (ds : List (ℕ × Items)) (x : Item) 
   }
 
   -- one item more waits, or was delivered
-  pub one_waits : contains id_cmp d.ids (id_of x) ≡ false → e.waiting ≡ insert x d.waiting → StandsFor d items ds → StandsFor e (items ++ x ∷ []) ds
+  pub one_waits : holds d.ids (id_of x) ≡ false → e.waiting ≡ insert x d.waiting → StandsFor d items ds → StandsFor e (items ++ x ∷ []) ds
   one_waits f w s =
       with_waiting s (w ∙ ap (insert x) s.up_to.waiting ∙ sym (waits_too (items_of (batches ds)) items x (sym (s.up_to.ids x) ∙ f)))
 
-  pub one_was_delivered : contains id_cmp d.ids (id_of x) ≡ true → e.waiting ≡ d.waiting → StandsFor d items ds → StandsFor e (items ++ x ∷ []) ds
+  pub one_was_delivered : holds d.ids (id_of x) ≡ true → e.waiting ≡ d.waiting → StandsFor d items ds → StandsFor e (items ++ x ∷ []) ds
   one_was_delivered t w s =
       with_waiting s (w ∙ s.up_to.waiting ∙ sym (waits_not (items_of (batches ds)) items x (sym (s.up_to.ids x) ∙ t)))
 
@@ -56,7 +56,7 @@ one_batch d m e b known items ds here up ids_same waiting_same rest count_same a
           ap (λ l. add_new l b) u.known_are ∙ sym (items_more (take d.count (batches ds)) b) ∙ ap items_of (sym on.1) ∙ ap (λ c. items_of (take c (batches ds))) (sym at);
       ahead = λ k lt.
           ap (λ a. get nat_cmp a k) ahead_same ∙ rest k (subst (λ c. c < k) count_same lt) ∙ u.ahead k (omega (arith, lt, at));
-      ids = ids_more known (λ y. ap (λ i. contains id_cmp i (id_of y)) ids_same ∙ u.ids y);
+      ids = ids_more known (λ y. ap (λ i. holds i (id_of y)) ids_same ∙ u.ids y);
       waiting = waiting_less ∙ ap (apart_from b) (waiting_same ∙ u.waiting) ∙ waiting_left known b items;
       numbered = u.numbered;
     }
@@ -77,7 +77,7 @@ all_done d m known items ds none count_same ids_same waiting_same ahead_same u =
           reached = subst (λ c. c ≤ length (batches ds)) (sym count_same) u.reached;
           known_are = ap items_of (sym (take_whole (batches ds)) ∙ ap (λ c. take c (batches ds)) (sym all ∙ sym count_same));
           ahead = λ k lt. ahead_same k ∙ u.ahead k (subst (λ c. c < k) count_same lt);
-          ids = λ y. ap (λ i. contains id_cmp i (id_of y)) ids_same ∙ u.ids y ∙ ap (λ l. knows l y) is;
+          ids = λ y. ap (λ i. holds i (id_of y)) ids_same ∙ u.ids y ∙ ap (λ l. knows l y) is;
           waiting = waiting_same ∙ u.waiting ∙ ap (λ l. in_order (apart_from l items)) is;
           numbered = u.numbered;
         };
@@ -99,7 +99,7 @@ pub one_more_batch : (s d m e : Delivery) (old new newer b known items : Items) 
 one_more_batch s d m e old new newer b known items ds here up ids_same waiting_same rest count_same ahead_same ids_more waiting_less gives f =
     let now : Items = known ++ f.done in
     let grown : IsUpTo e (add_new now b) items ds = one_batch d m e b now items ds here up ids_same waiting_same rest count_same ahead_same ids_more waiting_less f.up_to in
-    let at_ids : AreIdsOf m.ids now = (λ y. ap (λ i. contains id_cmp i (id_of y)) ids_same ∙ f.up_to.ids y) in
+    let at_ids : AreIdsOf m.ids now = (λ y. ap (λ i. holds i (id_of y)) ids_same ∙ f.up_to.ids y) in
     record {
       done = f.done ++ news now b;
       up_to = subst (λ l. IsUpTo e l items ds) (news_added now b ∙ append_assoc known f.done (news now b)) grown;

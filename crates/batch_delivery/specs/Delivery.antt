@@ -1,21 +1,17 @@
 -- For which received items and decisions a delivery stands.
-use Rattle.std.specs.Prelude.{ℕ, ◌≡◌, ◌<◌, ◌≤◌, ◌^◌, not, if◌then◌else◌, List, [], ◌∷◌, ◌++◌, length, take, None}
-use Rattle.std.specs.List.{filter}
+use Rattle.std.specs.Prelude.{ℕ, ◌≡◌, ◌<◌, ◌≤◌, ◌^◌, if◌then◌else◌, List, [], ◌∷◌, ◌++◌, length, take, None}
 use Rattle.std.specs.Ordering.{nat_cmp}
 use Rattle.std.specs.BTreeMap.{get}
-use Rattle.std.specs.BTreeSet.{BTreeSet, contains}
 use Rattle.upd_base.specs.Item.{id_of}
 use Rattle.upd_base.specs.declared.item.Item.{Item}
 use Rattle.instance_rules.specs.Say.{Items}
 use Rattle.consensus_rules.specs.Items.{knows}
 use Rattle.consensus_rules.specs.Delivered.{decision, batches, items_of}
 use Rattle.consensus_rules.specs.Waiting.{in_order}
-use Rattle.waiting_items.specs.Ids.{id_cmp}
+use Rattle.number_runs.specs.Runs.{holds}
+use Rattle.number_runs.specs.declared.runs.Run.{Run}
+use Rattle.waiting_items.specs.Ids.{apart_from}
 use Rattle.batch_delivery.specs.declared.delivery.Delivery.{Delivery}
-
--- the items that are not known by origin and number
-abbrev pub apart_from : Items → Items → Items
-apart_from known items = filter (λ x. not (knows known x)) items
 
 -- the items of xs that are not known, each origin and number at its first
 abbrev pub news : Items → Items → Items
@@ -23,8 +19,8 @@ news known [] = []
 news known (x ∷ xs) = if knows known x then news known xs else x ∷ news (known ++ x ∷ []) xs
 
 -- the origins and numbers that are kept are those of the known items
-abbrev pub AreIdsOf : BTreeSet (ℕ × ℕ) → Items → Type 0
-AreIdsOf ids known = (x : Item) → contains id_cmp ids (id_of x) ≡ knows known x
+abbrev pub AreIdsOf : List Run → Items → Type 0
+AreIdsOf ids known = (x : Item) → holds ids (id_of x) ≡ knows known x
 
 -- Of these decisions so many instances were delivered that these items are known, and of the received items the
 -- others wait. No decision is of an instance that a u64 cannot number.

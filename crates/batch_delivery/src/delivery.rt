@@ -1,8 +1,7 @@
 ghost use Rattle.std.specs.Prelude.{ℕ, List, All, true, false, None, ◌≡◌, ◌≢◌, ◌<◌, ◌≤◌, ◌+◌, ◌∷◌, ◌++◌, ◌||◌, [], IfOk, IfSome, IfNone, OnOk, OnErr, is_some, length, Some, take};
 ghost use Rattle.std.specs.List.{list_all};
 ghost use Rattle.std.specs.Ordering.{nat_cmp};
-ghost use Rattle.std.specs.BTreeMap.{btree_map_len, get, insert_entry, is_at};
-ghost use Rattle.std.specs.BTreeSet.{contains};
+ghost use Rattle.std.specs.BTreeMap.{btree_map_len, get, insert_entry};
 ghost use Rattle.std.specs.Map.{values_of};
 ghost use Rattle.upd_base.specs.Item.{ItemFits, id_of, item_fits};
 ghost use Rattle.order_trait.specs.Outbox.{Grows};
@@ -11,10 +10,12 @@ ghost use Rattle.consensus_rules.specs.Items.{add_new, knows};
 ghost use Rattle.consensus_rules.specs.Delivered.{batches, decision, items_of};
 ghost use Rattle.consensus_rules.specs.Instances.{last_instance};
 ghost use Rattle.consensus_rules.specs.Waiting.{in_order};
-ghost use Rattle.waiting_items.specs.Ids.{first_of, id_cmp, without};
+ghost use Rattle.number_runs.specs.Runs.{holds};
+ghost use Rattle.waiting_items.specs.Ids.{apart_from, first_of};
 
+use number_runs::NumberRuns;
 use std::alloc::Global;
-use std::collections::{BTreeMap, BTreeSet};
+use std::collections::BTreeMap;
 use upd_base::{Batch, Item, NoMemory};
 use waiting_items::Waiting;
 
@@ -30,7 +31,7 @@ pub struct Delivery {
     /// The batches of later instances that are decided, by number.
     ahead: BTreeMap<u64, Batch>,
     /// Origin and number of each item that was delivered.
-    ids: BTreeSet<(u8, u32)>,
+    ids: NumberRuns,
     /// What was received and not delivered.
     waiting: Waiting,
     ghost ahead_fit: { All (λ b. list_all (item_fits members) b ≡ true) (values_of ahead.entries) },
@@ -38,31 +39,32 @@ pub struct Delivery {
 }
 
 impl Delivery {
-    ghost use Rattle.batch_delivery.specs.Delivery.{AreIdsOf, IsUpTo, StandsFor, apart_from, members_of, news};
+    ghost use Rattle.batch_delivery.specs.Delivery.{AreIdsOf, IsUpTo, StandsFor, members_of, news};
 
     /// Before any input.
-    pub fn new(alloc: Global, members: u8) -> Delivery
-        ensures members { members_of result ≡ members }
-        ensures stands { StandsFor result [] [] }
+    pub fn new(alloc: Global, members: u8) -> Result<Delivery, NoMemory>
+        ensures members { IfOk result (λ d. members_of d ≡ members) }
+        ensures stands { IfOk result (λ d. StandsFor d [] []) }
     {
-        Delivery {
+        Ok(Delivery {
             members,
             count: 0,
             ahead: BTreeMap::new(alloc),
-            ids: BTreeSet::new(alloc),
-            waiting: Waiting::new(alloc),
-        }
+            ids: NumberRuns::new(alloc),
+            waiting: Waiting::new(alloc)?,
+        })
     }
 
     /// Whether an item with this one's origin and number was delivered.
     fn was_delivered(&self, item: &Item) -> bool
-        ensures { result ≡ contains id_cmp self.now.ids (id_of item.now) }
+        ensures { result ≡ holds self.now.ids (id_of item.now) }
     {
-        self.ids.contains(&id(item))
+        let (origin, number) = id(item);
+        self.ids.contains(origin, number)
     }
 
     /// An item was received for the first time.
-    pub fn receive(&mut self, item: Item) -> Result<(), NoMemory>
+    pub fn receive(&mut self, alloc: Global, item: Item) -> Result<(), NoMemory>
         requires { ItemFits (members_of self.old) item }
         ensures members { members_of self.new ≡ members_of self.old }
         ensures stands { OnOk result ((items : Items) (ds : List (ℕ × Items)) → knows items item ≡ false → StandsFor self.old items ds → StandsFor self.new (items ++ item ∷ []) ds) }
@@ -70,7 +72,7 @@ impl Delivery {
         if self.was_delivered(&item) {
             return Ok(());
         }
-        self.waiting.insert(item)?;
+        self.waiting.insert(alloc, item)?;
         Ok(())
     }
 
@@ -115,20 +117,45 @@ impl Delivery {
         ensures members { self.new.members ≡ self.old.members }
         ensures count { self.new.count ≡ self.old.count }
         ensures ahead { self.new.ahead ≡ self.old.ahead }
+        ensures waiting { self.new.waiting ≡ self.old.waiting }
         ensures ids { OnOk result ((known : Items) → AreIdsOf self.old.ids known → AreIdsOf self.new.ids (add_new known (item.now ∷ []))) }
-        ensures waiting { self.new.waiting ≡ without (id_of item.now) self.old.waiting }
         ensures delivered { OnOk result ((known : Items) → AreIdsOf self.old.ids known → delivered.new.items ≡ delivered.old.items ++ news known (item.now ∷ [])) }
         ensures fits { ItemFits self.old.members item.now → OnOk result (Grows (ItemFits self.old.members) delivered.old.items delivered.new.items) }
     {
-        self.waiting.remove(item);
-        if self.ids.insert(id(item))? {
+        let (origin, number) = id(item);
+        if self.ids.insert(origin, number)? {
             delivered.push(item.copy()?)?;
         }
         Ok(())
     }
 
-    /// Delivers the items of a batch.
-    fn deliver_batch(&mut self, items: &[Item], delivered: &mut Vec<Item>) -> Result<(), NoMemory>
+    /// Delivers each of the items, unless one with its origin and number was delivered.
+    fn deliver_items(&mut self, items: &[Item], delivered: &mut Vec<Item>) -> Result<(), NoMemory>
+        requires { list_all (item_fits self.old.members) items.now ≡ true }
+        ensures members { self.new.members ≡ self.old.members }
+        ensures count { self.new.count ≡ self.old.count }
+        ensures ahead { self.new.ahead ≡ self.old.ahead }
+        ensures waiting { self.new.waiting ≡ self.old.waiting }
+        ensures ids { OnOk result ((known : Items) → AreIdsOf self.old.ids known → AreIdsOf self.new.ids (add_new known items.now)) }
+        ensures delivered { OnOk result ((known : Items) → AreIdsOf self.old.ids known → delivered.new.items ≡ delivered.old.items ++ news known items.now) }
+        ensures fits { OnOk result (Grows (ItemFits self.old.members) delivered.old.items delivered.new.items) }
+    {
+        match items {
+            [] => Ok(()),
+            [item, rest @ ..] => {
+                self.deliver_item(item, delivered)?;
+                self.deliver_items(rest, delivered)
+            }
+        }
+    }
+
+    /// Delivers the items of a batch; none of them waits any more.
+    fn deliver_batch(
+        &mut self,
+        alloc: Global,
+        items: &[Item],
+        delivered: &mut Vec<Item>,
+    ) -> Result<(), NoMemory>
         requires { list_all (item_fits self.old.members) items.now ≡ true }
         ensures members { self.new.members ≡ self.old.members }
         ensures count { self.new.count ≡ self.old.count }
@@ -138,25 +165,24 @@ impl Delivery {
         ensures delivered { OnOk result ((known : Items) → AreIdsOf self.old.ids known → delivered.new.items ≡ delivered.old.items ++ news known items.now) }
         ensures fits { OnOk result (Grows (ItemFits self.old.members) delivered.old.items delivered.new.items) }
     {
-        match items {
-            [] => Ok(()),
-            [item, rest @ ..] => {
-                self.deliver_item(item, delivered)?;
-                self.deliver_batch(rest, delivered)
-            }
-        }
+        self.waiting.remove_all(alloc, items)?;
+        self.deliver_items(items, delivered)
     }
 
     /// Delivers what the decisions let be delivered: from the instance that is next up to the first that
     /// is not decided.
-    pub fn deliver(&mut self, delivered: &mut Vec<Item>) -> Result<(), NoMemory>
+    pub fn deliver(
+        &mut self,
+        alloc: Global,
+        delivered: &mut Vec<Item>,
+    ) -> Result<(), NoMemory>
         ensures members { members_of self.new ≡ members_of self.old }
         ensures stands { OnOk result ((known items : Items) (ds : List (ℕ × Items)) → IsUpTo self.old known items ds → StandsFor self.new items ds) }
         ensures delivered { OnOk result ((known items : Items) (ds : List (ℕ × Items)) (more : Items) → IsUpTo self.old known items ds → items_of (batches ds) ≡ known ++ more → delivered.new.items ≡ delivered.old.items ++ more) }
         ensures fits { OnOk result (Grows (ItemFits (members_of self.old)) delivered.old.items delivered.new.items) }
     {
         while let Some(batch) = self.take_next() {
-            self.deliver_batch(batch.items(), delivered)?;
+            self.deliver_batch(alloc, batch.items(), delivered)?;
         }
         Ok(())
     }
@@ -188,17 +214,17 @@ impl Delivery {
             members: self.members,
             count: self.count,
             ahead: copy_batches(alloc, &self.ahead)?,
-            ids: copy_ids(alloc, &self.ids)?,
-            waiting: self.waiting.copy(alloc)?,
+            ids: self.ids.copy(alloc)?,
+            waiting: self.waiting.copy()?,
         })
     }
 }
 
 /// The origin and the number of an item.
-fn id(item: &Item) -> (u8, u32)
+fn id(item: &Item) -> (u8, u64)
     ensures { result ≡ id_of item.now }
 {
-    (item.origin().get(), item.number())
+    (item.origin().get(), u64::from(item.number()))
 }
 
 /// The same batches.
@@ -223,22 +249,4 @@ fn put(batches: &mut BTreeMap<u64, Batch>, number: u64, batch: Batch) -> Result<
 {
     batches.insert(number, batch)?;
     Ok(())
-}
-
-fn put_id(ids: &mut BTreeSet<(u8, u32)>, id: (u8, u32)) -> Result<(), NoMemory>
-    ensures { OnOk result ((q : ℕ × ℕ) → contains id_cmp ids.new q ≡ (is_at (id_cmp id) q || contains id_cmp ids.old q)) }
-{
-    ids.insert(id)?;
-    Ok(())
-}
-
-/// The same origins and numbers.
-fn copy_ids(alloc: Global, ids: &BTreeSet<(u8, u32)>) -> Result<BTreeSet<(u8, u32)>, NoMemory>
-    ensures { IfOk result (λ copies. (q : ℕ × ℕ) → contains id_cmp copies q ≡ contains id_cmp ids.now q) }
-{
-    let mut copies = BTreeSet::new(alloc);
-    for id in ids.iter() {
-        put_id(&mut copies, *id)?;
-    }
-    Ok(copies)
 }

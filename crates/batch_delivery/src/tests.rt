@@ -38,11 +38,13 @@ fn batch(alloc: Global, number: u32) -> Result<Batch, Fail>
 fn in_the_order_of_the_instances(rt: HostRuntime) -> Result<(), Fail> {
     let alloc = rt.alloc();
     let mut delivered = Vec::new(alloc);
-    let mut delivery = Delivery::new(alloc, 7);
-    assert!(rt; delivery.receive(item(4)?).is_ok());
+    let Ok(mut delivery) = Delivery::new(alloc, 7) else {
+        return Err("memory")?;
+    };
+    assert!(rt; delivery.receive(alloc, item(4)?).is_ok());
     assert_eq!(rt; delivery.next(), Some(1));
     assert!(rt; delivery.decide(2, batch(alloc, 5)?).is_ok());
-    assert!(rt; delivery.deliver(&mut delivered).is_ok());
+    assert!(rt; delivery.deliver(alloc, &mut delivered).is_ok());
     assert!(rt; delivered.is_empty());
     assert!(rt; delivery.is_decided(2));
     assert!(rt; !delivery.is_decided(1));
@@ -54,7 +56,7 @@ fn in_the_order_of_the_instances(rt: HostRuntime) -> Result<(), Fail> {
         return Err("memory")?;
     };
     assert!(rt; copy.decide(1, batch(alloc, 4)?).is_ok());
-    assert!(rt; copy.deliver(&mut delivered).is_ok());
+    assert!(rt; copy.deliver(alloc, &mut delivered).is_ok());
     assert_eq!(rt; delivered.len(), 2);
     assert_eq!(rt; copy.next(), Some(3));
     assert_eq!(rt; delivery.next(), Some(1));

@@ -1,8 +1,8 @@
 ghost use Rattle.std.specs.Prelude.{◌≡◌, List, [], ◌∷◌, IfOk, OnOk, OnErr};
-ghost use Rattle.reliable_bcast.specs.Rb.{Share, Event, Started, Received, StandsFor, seen};
+ghost use Rattle.reliable_bcast.specs.Rb.{Event, Started, Received, StandsFor, seen};
 
+use number_runs::NumberRuns;
 use std::alloc::Global;
-use std::collections::BTreeSet;
 use std::marker::Model;
 use upd_base::NoMemory;
 
@@ -15,75 +15,65 @@ pub enum Seen {
     Again,
 }
 
-/// One member's share of reliable broadcasts, each named by a key.
+/// One member's share of reliable broadcasts, each named by the origin of its message and the number there.
 ///
-/// It keeps no list of what was done to it: a clause speaks of every list of events for which it stands.
+/// It keeps no list of what was done to it: a clause speaks of every list of events for which it stands. What
+/// is kept of the messages of an origin is as little as their numbers are in order.
 #[derive(Drop)]
-pub struct Rb<K: Ord> {
-    started: BTreeSet<K>,
-    received: BTreeSet<K>,
+pub struct Rb {
+    started: NumberRuns,
+    received: NumberRuns,
 }
 
-impl<K: Ord> Model for Rb<K> {
+impl Model for Rb {
     ghost use Rattle.reliable_bcast.specs.Rb.{Share};
 
-    ghost Value = { Share K };
+    ghost Value = { Share };
 
-    ghost view = { λ r. record { started = r.started.keys; received = r.received.keys } };
+    ghost view = { λ r. record { started = r.started; received = r.received } };
 }
 
-impl<K: Ord + Drop> Rb<K> {
+impl Rb {
     /// Nothing was started or received.
-    pub fn new(alloc: Global) -> Rb<K>
-        ensures stands { StandsFor K.cmp result [] }
+    pub fn new(alloc: Global) -> Rb
+        ensures stands { StandsFor result [] }
     {
         Rb {
-            started: BTreeSet::new(alloc),
-            received: BTreeSet::new(alloc),
+            started: NumberRuns::new(alloc),
+            received: NumberRuns::new(alloc),
         }
     }
 
-    /// This member started the key. After `NoMemory` nothing has changed.
-    pub fn start(&mut self, key: K) -> Result<(), NoMemory>
-        ensures stands { OnOk result ((past : List (Event K)) → StandsFor K.cmp self.old past → StandsFor K.cmp self.new (Started key ∷ past)) }
+    /// This member started the broadcast. After `NoMemory` nothing has changed.
+    pub fn start(&mut self, origin: u8, number: u32) -> Result<(), NoMemory>
+        ensures stands { OnOk result ((past : List Event) → StandsFor self.old past → StandsFor self.new (Started (origin, number) ∷ past)) }
         ensures unchanged { OnErr result (self.new ≡ self.old) }
     {
-        self.started.insert(key)?;
+        self.started.insert(origin, u64::from(number))?;
         Ok(())
     }
 
-    /// The key was received. After `NoMemory` nothing has changed.
-    pub fn receive(&mut self, key: K) -> Result<Seen, NoMemory>
-        ensures stands { OnOk result ((past : List (Event K)) → StandsFor K.cmp self.old past → StandsFor K.cmp self.new (Received key ∷ past)) }
-        ensures seen { IfOk result (λ answer. (past : List (Event K)) → StandsFor K.cmp self.old past → answer ≡ seen K.cmp past key) }
+    /// The broadcast was received. After `NoMemory` nothing has changed.
+    pub fn receive(&mut self, origin: u8, number: u32) -> Result<Seen, NoMemory>
+        ensures stands { OnOk result ((past : List Event) → StandsFor self.old past → StandsFor self.new (Received (origin, number) ∷ past)) }
+        ensures seen { IfOk result (λ answer. (past : List Event) → StandsFor self.old past → answer ≡ seen past (origin, number)) }
         ensures unchanged { OnErr result (self.new ≡ self.old) }
     {
-        let pass_on = !self.started.contains(&key);
-        if self.received.insert(key)? {
+        let number = u64::from(number);
+        let pass_on = !self.started.contains(origin, number);
+        if self.received.insert(origin, number)? {
             Ok(Seen::First { pass_on })
         } else {
             Ok(Seen::Again)
         }
     }
-}
 
-impl<K: Ord + Copy> Rb<K> {
     /// An equal one.
-    pub fn copy(&self, alloc: Global) -> Result<Rb<K>, NoMemory>
+    pub fn copy(&self, alloc: Global) -> Result<Rb, NoMemory>
         ensures { IfOk result (λ copy. copy ≡ self.now) }
     {
-        let started = copy_of(alloc, &self.started)?;
-        let received = copy_of(alloc, &self.received)?;
+        let started = self.started.copy(alloc)?;
+        let received = self.received.copy(alloc)?;
         Ok(Rb { started, received })
     }
-}
-
-fn copy_of<K: Ord + Copy>(alloc: Global, keys: &BTreeSet<K>) -> Result<BTreeSet<K>, NoMemory>
-    ensures { IfOk result (λ copy. copy.keys ≡ keys.now.keys) }
-{
-    let mut copies = BTreeSet::new(alloc);
-    for key in keys.iter() {
-        copies.insert(*key)?;
-    }
-    Ok(copies)
 }

@@ -19,11 +19,15 @@ fn item(origin: u8, number: u32) -> Result<Item, Fail>
     }
 }
 
-fn fill(waiting: &mut Waiting) -> Result<(), Fail> {
-    if waiting.insert(item(1, 0)?).is_err() {
+fn put(alloc: Global, waiting: &mut Waiting, item: Item) -> Result<(), Fail> {
+    if waiting.insert(alloc, item).is_err() {
         return Err("memory")?;
     }
-    if waiting.insert(item(0, 7)?).is_err() {
+    Ok(())
+}
+
+fn take_out(alloc: Global, waiting: &mut Waiting, item: Item) -> Result<(), Fail> {
+    if waiting.remove_all(alloc, &[item]).is_err() {
         return Err("memory")?;
     }
     Ok(())
@@ -45,17 +49,21 @@ fn first(alloc: Global, waiting: &Waiting) -> Result<Option<Item>, Fail> {
 #[test]
 fn by_origin_and_number(rt: HostRuntime) -> Result<(), Fail> {
     let alloc = rt.alloc();
-    let mut waiting = Waiting::new(alloc);
-    assert!(rt; waiting.is_empty());
-    fill(&mut waiting)?;
-    let Ok(mut copy) = waiting.copy(alloc) else {
+    let Ok(mut waiting) = Waiting::new(alloc) else {
         return Err("memory")?;
     };
-    waiting.remove(&item(0, 7)?);
+    assert!(rt; waiting.is_empty());
+    put(alloc, &mut waiting, item(1, 0)?)?;
+    put(alloc, &mut waiting, item(0, 7)?)?;
+    put(alloc, &mut waiting, item(1, 0)?)?;
+    let Ok(mut copy) = waiting.copy() else {
+        return Err("memory")?;
+    };
+    take_out(alloc, &mut waiting, item(0, 7)?)?;
     assert_eq!(rt; first(alloc, &waiting)?, Some(item(1, 0)?));
     assert_eq!(rt; first(alloc, &copy)?, Some(item(0, 7)?));
-    copy.remove(&item(0, 7)?);
-    copy.remove(&item(1, 0)?);
+    take_out(alloc, &mut copy, item(0, 7)?)?;
+    take_out(alloc, &mut copy, item(1, 0)?)?;
     assert_eq!(rt; first(alloc, &copy)?, None);
     assert!(rt; copy.is_empty());
     Ok(())

@@ -1,44 +1,42 @@
-ghost use Rattle.std.specs.Prelude.{ℕ, All, false, ◌≡◌, ◌↔◌, [], IfOk, IsTrue, OnOk, OnErr};
-ghost use Rattle.upd_base.specs.Item.{id_of, ItemFits};
+ghost use Rattle.std.specs.Prelude.{ℕ, All, false, ◌≡◌, ◌≤◌, ◌↔◌, ◌++◌, ◌∷◌, [], IfOk, IsTrue, OnOk, OnErr, drop, length, take};
+ghost use Rattle.upd_base.specs.Item.{ItemFits};
 ghost use Rattle.consensus_rules.specs.Items.{knows};
 ghost use Rattle.consensus_rules.specs.Waiting.{insert};
-ghost use Rattle.waiting_items.specs.Ids.{first_of, id_cmp, without};
-ghost use Rattle.std.specs.BTreeMap.{insert_entry, is_at};
-ghost use Rattle.std.specs.Map.{keys_of, remove_entry};
-ghost use Rattle.std.specs.List.Sorted.{IsStrictlySortedBy};
+ghost use Rattle.waiting_items.specs.Ids.{apart_from, first_of};
 
 use std::alloc::Global;
-use std::collections::BTreeMap;
 use std::marker::Model;
+use std::sync::Arc;
 use upd_base::{Batch, Item, MAX_BATCH, NoMemory};
 
 /// Items in ascending order of origin and number, of each origin and number one.
+///
+/// Copies share the items until one of them changes.
 #[derive(Drop)]
 pub struct Waiting {
-    items: BTreeMap<(u8, u32), Item>,
+    items: Arc<Vec<Item>, Global>,
 }
 
 impl Model for Waiting {
-    ghost use Rattle.std.specs.Prelude.{List};
-    ghost use Rattle.std.specs.Map.{values_of};
+    ghost use Rattle.std.specs.Prelude.{◌≡◌, List, true};
+    ghost use Rattle.std.specs.Arc.{arc_value};
+    ghost use Rattle.upd_base.specs.Batch.{ascends};
     ghost use Rattle.upd_base.specs.declared.item.Item.{Item};
-    ghost use Rattle.waiting_items.specs.Ids.{AreKeyed};
 
     ghost Value = { List Item };
 
-    ghost view = { λ w. values_of w.items.entries };
+    ghost view = { λ w. (arc_value w.items).items };
 
-    ghost invariant = { λ w. AreKeyed w.items.entries };
+    ghost invariant = { λ w. ascends (arc_value w.items).items ≡ true };
 }
 
 impl Waiting {
     /// None waits.
-    pub fn new(alloc: Global) -> Waiting
-        ensures { result ≡ [] }
+    pub fn new(alloc: Global) -> Result<Waiting, NoMemory>
+        ensures { IfOk result (λ w. w ≡ []) }
     {
-        Waiting {
-            items: BTreeMap::new(alloc),
-        }
+        let items = Arc::new(alloc, Vec::new(alloc))?;
+        Ok(Waiting { items })
     }
 
     /// Whether none waits.
@@ -48,21 +46,29 @@ impl Waiting {
         self.items.is_empty()
     }
 
-    /// Puts an item behind those that stand before it; one with its origin and number that is there gives
-    /// way to it. Without memory nothing changes.
-    pub fn insert(&mut self, item: Item) -> Result<(), NoMemory>
+    /// Puts an item behind those that stand before it; where one waits with its origin and number, nothing
+    /// changes. Without memory nothing changes.
+    pub fn insert(&mut self, alloc: Global, item: Item) -> Result<(), NoMemory>
         ensures ok { knows self.old item ≡ false → OnOk result (self.new ≡ insert item self.old) }
         ensures err { OnErr result (self.new ≡ self.old) }
         ensures fits { (n : ℕ) → ItemFits n item → All (ItemFits n) self.old → All (ItemFits n) self.new }
     {
-        put(&mut self.items, id(&item), item)
+        if knows(self.items.as_slice(), &item) {
+            return Ok(());
+        }
+        let items = with_item(alloc, self.items.as_slice(), item)?;
+        self.items = Arc::new(alloc, items)?;
+        Ok(())
     }
 
-    /// Takes the item with this one's origin and number out, where there is one.
-    pub fn remove(&mut self, item: &Item)
-        ensures { self.new ≡ without (id_of item.now) self.old }
+    /// Takes out each item with the origin and number of one of these. Without memory nothing changes.
+    pub fn remove_all(&mut self, alloc: Global, gone: &[Item]) -> Result<(), NoMemory>
+        ensures ok { OnOk result (self.new ≡ apart_from gone.now self.old) }
+        ensures err { OnErr result (self.new ≡ self.old) }
     {
-        take_out(&mut self.items, id(item));
+        let items = without(alloc, self.items.as_slice(), gone)?;
+        self.items = Arc::new(alloc, items)?;
+        Ok(())
     }
 
     /// The first 32 items, or all where there are fewer; None exactly where none waits.
@@ -70,7 +76,7 @@ impl Waiting {
         ensures { IfOk result (λ batch. batch ≡ first_of self.now) }
     {
         let mut items = Vec::new(alloc);
-        for item in self.items.values() {
+        for item in self.items.iter() {
             if items.len() == MAX_BATCH {
                 break;
             }
@@ -80,37 +86,68 @@ impl Waiting {
     }
 
     /// The same items.
-    pub fn copy(&self, alloc: Global) -> Result<Waiting, NoMemory>
+    pub fn copy(&self) -> Result<Waiting, NoMemory>
         ensures { IfOk result (λ copy. copy ≡ self.now) }
     {
-        let mut items = BTreeMap::new(alloc);
-        for (id, item) in self.items.iter() {
-            put(&mut items, *id, item.copy()?)?;
-        }
+        let items = self.items.clone()?;
         Ok(Waiting { items })
     }
 }
 
-/// Takes the item under an origin and a number out, where there is one.
-fn take_out(items: &mut BTreeMap<(u8, u32), Item>, id: (u8, u32))
-    ensures entries { items.new.entries ≡ remove_entry (is_at (id_cmp id)) items.old.entries }
-    ensures ordered { IsStrictlySortedBy id_cmp (keys_of items.old.entries) }
+/// Whether one of the items has this one's origin and number.
+fn knows(items: &[Item], item: &Item) -> bool
+    ensures { result ≡ knows items.now item.now }
 {
-    items.len();
-    items.remove(&id);
+    items.iter().any(|other| other.has_id_of(item))
 }
 
-/// The origin and the number of an item.
-fn id(item: &Item) -> (u8, u32)
-    ensures { result ≡ id_of item.now }
+/// The items, with one more behind those that stand before it.
+fn with_item(alloc: Global, items: &[Item], item: Item) -> Result<Vec<Item>, NoMemory>
+    ensures { IfOk result (λ more. more.items ≡ insert item items.now) }
 {
-    (item.origin().get(), item.number())
+    let place = place_of(items, &item);
+    let mut more = Vec::new(alloc);
+    copy_to(&mut more, &items[..place])?;
+    more.push(item)?;
+    copy_to(&mut more, &items[place..])?;
+    Ok(more)
 }
 
-fn put(items: &mut BTreeMap<(u8, u32), Item>, id: (u8, u32), item: Item) -> Result<(), NoMemory>
-    ensures ok { OnOk result (items.new.entries ≡ insert_entry id_cmp items.old.entries id item) }
-    ensures err { OnErr result (items.new.entries ≡ items.old.entries) }
+/// How many items stand before the first that does not stand before this one.
+fn place_of(items: &[Item], item: &Item) -> usize
+    ensures within { result ≤ length items.now }
+    ensures place { insert item.now items.now ≡ take result items.now ++ item.now ∷ drop result items.now }
 {
-    items.insert(id, item)?;
+    let mut place = 0;
+    while place < items.len() {
+        if !items[place].stands_before(item) {
+            return place;
+        }
+        place += 1;
+    }
+    place
+}
+
+/// Adds copies of the items.
+fn copy_to(copies: &mut Vec<Item>, items: &[Item]) -> Result<(), NoMemory>
+    ensures { OnOk result (copies.new.items ≡ copies.old.items ++ items.now) }
+{
+    copies.reserve(items.len())?;
+    for item in items {
+        copies.push(item.copy()?)?;
+    }
     Ok(())
+}
+
+/// The items that have not the origin and number of one of the others.
+fn without(alloc: Global, items: &[Item], gone: &[Item]) -> Result<Vec<Item>, NoMemory>
+    ensures { IfOk result (λ left. left.items ≡ apart_from gone.now items.now) }
+{
+    let mut left = Vec::new(alloc);
+    for item in items {
+        if !knows(gone, item) {
+            left.push(item.copy()?)?;
+        }
+    }
+    Ok(left)
 }

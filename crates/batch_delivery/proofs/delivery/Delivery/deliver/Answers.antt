@@ -3,7 +3,8 @@ use Rattle.upd_base.specs.Item.{ItemFits}
 use Rattle.order_trait.specs.Outbox.{Grows}
 use Rattle.instance_rules.specs.Say.{Items}
 use Rattle.consensus_rules.specs.Delivered.{batches, items_of}
-use Rattle.batch_delivery.specs.Delivery.{AreIdsOf, apart_from, news}
+use Rattle.waiting_items.specs.Ids.{apart_from}
+use Rattle.batch_delivery.specs.Delivery.{AreIdsOf, news}
 use Rattle.consensus_rules.specs.Items.{add_new}
 use Rattle.batch_delivery.proofs.Fits.{grows_more}
 use Rattle.batch_delivery.proofs.Steps.{SoFar, one_more_batch, all_done, gave_all}

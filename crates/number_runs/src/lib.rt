@@ -1,0 +1,9 @@
+//! Sets of numbers by row, kept as runs of successive numbers: what comes in ascending order takes next to
+//! no memory, however much it is, and is copied at once.
+#![tactic(auto)]
+
+mod runs;
+#[cfg(test)]
+mod tests;
+
+pub use runs::NumberRuns;
