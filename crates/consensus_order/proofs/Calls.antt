@@ -18,7 +18,6 @@ use Rattle.consensus_rules.specs.Consensus.{sends_by}
 use Rattle.consensus_rules.proofs.Picks.{Rising, numbers_rise, quiet_turns}
 use Rattle.instance_table.specs.Table as tables
 use Rattle.instance_table.specs.Table.{Ascend, Covers}
-use Rattle.waiting_items.specs.Ids.{id_cmp}
 use Rattle.batch_delivery.specs.Delivery as deliveries
 use Rattle.consensus_order.specs.declared.consensus.ConsensusOrder.{ConsensusOrder}
 use Rattle.consensus_order.specs.ConsensusOrder.{StandsFor, begins, events_of, suspects}
@@ -40,7 +39,7 @@ sends_all old mid new a b c first then_ =
 pub told : (m u : ConsensusOrder) (order : Order) (past : Inputs) → begins order ≡ [] → u.broadcasts ≡ m.broadcasts → u.delivery ≡ m.delivery → tables.members_of u.instances ≡ tables.members_of m.instances
     → tables.StandsFor u.instances (λ k. turns_of (tables.members_of m.instances) k (Called order ∷ past)) (suspects (Called order ∷ past)) → StandsFor m past → StandsFor u (Called order ∷ past)
 told m u order past quiet same_broadcasts same_delivery same_members i s = record {
-  broadcasts = subst (λ r. rb.StandsFor id_cmp r (events_of (Called order ∷ past))) (sym same_broadcasts) (subst (λ l. rb.StandsFor id_cmp m.broadcasts (l ++ events_of past)) (sym quiet) s.broadcasts);
+  broadcasts = subst (λ r. rb.StandsFor r (events_of (Called order ∷ past))) (sym same_broadcasts) (subst (λ l. rb.StandsFor m.broadcasts (l ++ events_of past)) (sym quiet) s.broadcasts);
   delivery = subst (λ d. deliveries.StandsFor d (received past) (decisions past)) (sym same_delivery) s.delivery;
   instances = subst (λ n. tables.StandsFor u.instances (λ k. turns_of n k (Called order ∷ past)) (suspects (Called order ∷ past))) (sym same_members) i;
 }
@@ -62,10 +61,10 @@ suspicion_sent n me who on past is =
     subst (λ o. flat_map (λ k. in_instance k (says n me (Called (Suspects who) ∷ turns_of n k past))) (numbers past) ≡ sends_by n me (Called (cond o (Suspect who) (Trust who)) ∷ past)) (sym is) refl
 
 -- A broadcast was begun.
-pub begun_stands : (m u : ConsensusOrder) (item : Item) (key : ℕ × ℕ) (past : Inputs) → key ≡ id_of item → rb.StandsFor id_cmp u.broadcasts (Started key ∷ events_of past) → u.delivery ≡ m.delivery → u.instances ≡ m.instances
+pub begun_stands : (m u : ConsensusOrder) (item : Item) (key : ℕ × ℕ) (past : Inputs) → key ≡ id_of item → rb.StandsFor u.broadcasts (Started key ∷ events_of past) → u.delivery ≡ m.delivery → u.instances ≡ m.instances
     → StandsFor m past → StandsFor u (Called (Broadcast item) ∷ past)
 begun_stands m u item key past is b same_delivery same_instances s = record {
-  broadcasts = subst (λ k. rb.StandsFor id_cmp u.broadcasts (Started k ∷ events_of past)) is b;
+  broadcasts = subst (λ k. rb.StandsFor u.broadcasts (Started k ∷ events_of past)) is b;
   delivery = subst (λ d. deliveries.StandsFor d (received past) (decisions past)) (sym same_delivery) s.delivery;
   instances = subst (λ i. tables.StandsFor i (λ k. turns_of (tables.members_of i) k (Called (Broadcast item) ∷ past)) (suspects (Called (Broadcast item) ∷ past))) (sym same_instances) s.instances;
 }

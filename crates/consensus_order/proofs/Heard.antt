@@ -28,14 +28,13 @@ use Rattle.consensus_rules.specs.Items.{knows, add_new, rb_item, received, begun
 use Rattle.consensus_rules.specs.Delivered.{decide_in, decisions, decision, batches, items_of}
 use Rattle.consensus_rules.specs.Instances.{hears, number_in, turns_of}
 use Rattle.consensus_rules.specs.Consensus.{hears_one, passes_rb, says_on}
-use Rattle.waiting_items.specs.Ids.{id_cmp}
 use Rattle.batch_delivery.specs.Delivery as deliveries
 use Rattle.instance_table.specs.Table as tables
 use Rattle.consensus_order.specs.declared.consensus.ConsensusOrder.{ConsensusOrder}
 use Rattle.consensus_order.specs.ConsensusOrder.{StandsFor, Heard, events_of, heard_by, suspects}
 
 -- After an Rb: the item was received before, or is received now.
-pub item_heard : (m u : ConsensusOrder) (from : ℕ) (item : Item) (past : Inputs) → rb.StandsFor id_cmp u.broadcasts (events_of (Took from (Rb item) ∷ past))
+pub item_heard : (m u : ConsensusOrder) (from : ℕ) (item : Item) (past : Inputs) → rb.StandsFor u.broadcasts (events_of (Took from (Rb item) ∷ past))
     → deliveries.StandsFor u.delivery (received (Took from (Rb item) ∷ past)) (decisions past) → u.instances ≡ m.instances → StandsFor m past → Heard u from (Rb item) past
 item_heard m u from item past b d same s = record {
   broadcasts = b;
@@ -141,7 +140,7 @@ decided_heard m from k body past b low named is s =
     let was : decided turns ≡ Some b = sym (decision_turns (tables.members_of m.instances) k past) ∙ is in
     let none : get nat_cmp m.instances.running k ≡ None = decided_none turns b (get nat_cmp m.instances.running k) was (s.instances.kept k) in
     record {
-      broadcasts = subst (rb.StandsFor id_cmp m.broadcasts) (sym n.no_event) s.broadcasts;
+      broadcasts = subst (rb.StandsFor m.broadcasts) (sym n.no_event) s.broadcasts;
       delivery = subst (λ rs. deliveries.IsUpTo m.delivery (items_of (batches ds)) rs (decisions (Took from body ∷ past))) (sym (ap (add_new (received past)) n.no_item))
           (later m.delivery m.delivery (received past) ds (decide_in body) refl refl refl
           (λ j lt. s.delivery.up_to.ahead j lt ∙ sym (unchanged n j))
@@ -194,7 +193,7 @@ pub say_heard : (m u : ConsensusOrder) (from k : ℕ) (body : Body) (past : Inpu
     → deliveries.IsUpTo u.delivery (items_of (batches (decisions past))) (received past) (decisions past ++ decide_in body)
     → tables.StandsFor u.instances (heard_by (tables.members_of u.instances) from body past) (suspects past) → StandsFor m past → Heard u from body past
 say_heard m u from k body past n same d i s = record {
-  broadcasts = subst (λ r. rb.StandsFor id_cmp r (events_of (Took from body ∷ past))) (sym same) (subst (rb.StandsFor id_cmp m.broadcasts) (sym n.no_event) s.broadcasts);
+  broadcasts = subst (λ r. rb.StandsFor r (events_of (Took from body ∷ past))) (sym same) (subst (rb.StandsFor m.broadcasts) (sym n.no_event) s.broadcasts);
   delivery = subst (λ rs. deliveries.IsUpTo u.delivery (items_of (batches (decisions past))) rs (decisions (Took from body ∷ past))) (sym (ap (add_new (received past)) n.no_item)) d;
   instances = i;
 }
@@ -218,21 +217,21 @@ decide_of k from body past n i b e =
     decides_or (Some say) = decides say
 
 -- what a receipt tells
-pub again_received : (past : Inputs) (item : Item) (key : ℕ × ℕ) → key ≡ id_of item → rb.seen id_cmp (events_of past) key ≡ Again → knows (received past) item ≡ true
+pub again_received : (past : Inputs) (item : Item) (key : ℕ × ℕ) → key ≡ id_of item → rb.seen (events_of past) key ≡ Again → knows (received past) item ≡ true
 again_received past item key is e =
-    sym (received_are past item) ∙ (elim (cases_Bool (rb.was_received id_cmp (events_of past) (id_of item))) [
+    sym (received_are past item) ∙ (elim (cases_Bool (rb.was_received (events_of past) (id_of item))) [
       | inl t ↦ t
-      | inr f ↦ absurd (no_again (not (rb.was_started id_cmp (events_of past) (id_of item)))
-          (sym (ap (λ b. cond b Again (First (not (rb.was_started id_cmp (events_of past) (id_of item))))) f) ∙ ap (rb.seen id_cmp (events_of past)) (sym is) ∙ e))
+      | inr f ↦ absurd (no_again (not (rb.was_started (events_of past) (id_of item)))
+          (sym (ap (λ b. cond b Again (First (not (rb.was_started (events_of past) (id_of item))))) f) ∙ ap (rb.seen (events_of past)) (sym is) ∙ e))
     ])
   where
     no_again : (b : Bool) → First b ≡ Again → ⊥
     no_again b e = absurd cc
 
-pub first_received : (past : Inputs) (item : Item) (key : ℕ × ℕ) (pass : Bool) → key ≡ id_of item → rb.seen id_cmp (events_of past) key ≡ First pass → knows (received past) item ≡ false
+pub first_received : (past : Inputs) (item : Item) (key : ℕ × ℕ) (pass : Bool) → key ≡ id_of item → rb.seen (events_of past) key ≡ First pass → knows (received past) item ≡ false
 first_received past item key pass is e =
-    sym (received_are past item) ∙ (elim (cases_Bool (rb.was_received id_cmp (events_of past) (id_of item))) [
-      | inl t ↦ absurd (no_first pass (sym (ap (λ b. cond b Again (First (not (rb.was_started id_cmp (events_of past) (id_of item))))) t) ∙ ap (rb.seen id_cmp (events_of past)) (sym is) ∙ e))
+    sym (received_are past item) ∙ (elim (cases_Bool (rb.was_received (events_of past) (id_of item))) [
+      | inl t ↦ absurd (no_first pass (sym (ap (λ b. cond b Again (First (not (rb.was_started (events_of past) (id_of item))))) t) ∙ ap (rb.seen (events_of past)) (sym is) ∙ e))
       | inr f ↦ f
     ])
   where
@@ -240,10 +239,10 @@ first_received past item key pass is e =
     no_first b e = absurd cc
 
 -- and it is passed on unless its broadcast was begun here
-pub first_begun : (past : Inputs) (item : Item) (key : ℕ × ℕ) (pass : Bool) → key ≡ id_of item → rb.seen id_cmp (events_of past) key ≡ First pass → knows (begun past) item ≡ not pass
+pub first_begun : (past : Inputs) (item : Item) (key : ℕ × ℕ) (pass : Bool) → key ≡ id_of item → rb.seen (events_of past) key ≡ First pass → knows (begun past) item ≡ not pass
 first_begun past item key pass is e =
-    let at : rb.seen id_cmp (events_of past) (id_of item) ≡ First pass = ap (rb.seen id_cmp (events_of past)) (sym is) ∙ e in
-    sym (begun_are past item) ∙ told (rb.was_received id_cmp (events_of past) (id_of item)) (rb.was_started id_cmp (events_of past) (id_of item)) at
+    let at : rb.seen (events_of past) (id_of item) ≡ First pass = ap (rb.seen (events_of past)) (sym is) ∙ e in
+    sym (begun_are past item) ∙ told (rb.was_received (events_of past) (id_of item)) (rb.was_started (events_of past) (id_of item)) at
   where
     no_first : (b : Bool) → Again ≡ First b → ⊥
     no_first b e = absurd cc
@@ -274,6 +273,6 @@ is_rb (Reply i r a) item e = absurd cc
 is_rb (Next i r) item e = absurd cc
 is_rb (Decide i b) item e = absurd cc
 
-pub rb_heard : (m u : ConsensusOrder) (from : ℕ) (item : Item) (body : Body) (past : Inputs) → body ≡ Rb item → rb.StandsFor id_cmp u.broadcasts (events_of (Took from (Rb item) ∷ past))
+pub rb_heard : (m u : ConsensusOrder) (from : ℕ) (item : Item) (body : Body) (past : Inputs) → body ≡ Rb item → rb.StandsFor u.broadcasts (events_of (Took from (Rb item) ∷ past))
     → deliveries.StandsFor u.delivery (received (Took from (Rb item) ∷ past)) (decisions past) → u.instances ≡ m.instances → StandsFor m past → Heard u from body past
 rb_heard m u from item body past is b d same s = subst (λ z. Heard u from z past) (sym is) (item_heard m u from item past b d same s)

@@ -13,7 +13,6 @@ use Rattle.instance_rules.specs.Say.{Turns}
 use Rattle.instance_rules.specs.Bodies.{say_of}
 use Rattle.consensus_rules.specs.Delivered.{batches, decisions, items_of}
 use Rattle.consensus_rules.specs.Instances.{hears, turns_of}
-use Rattle.waiting_items.specs.Ids.{id_cmp}
 use Rattle.batch_delivery.specs.Delivery as deliveries
 use Rattle.instance_table.specs.Table as tables
 use Rattle.consensus_order.specs.declared.consensus.ConsensusOrder.{ConsensusOrder}
@@ -23,16 +22,16 @@ abbrev pub seat_of : ConsensusOrder → Seat
 seat_of m = record { kind = Consensus; members = tables.members_of m.instances; me = tables.me_of m.instances }
 
 -- what its inputs are to the reliable broadcast of its items
-abbrev pub begins : Order → List (Event (ℕ × ℕ))
+abbrev pub begins : Order → List Event
 begins (Broadcast item) = Started (id_of item) ∷ []
 begins (Suspect who) = []
 begins (Trust who) = []
 
-abbrev pub receives : Body → List (Event (ℕ × ℕ))
+abbrev pub receives : Body → List Event
 receives (Rb item) = Received (id_of item) ∷ []
 receives body = []
 
-abbrev pub events_of : Inputs → List (Event (ℕ × ℕ))
+abbrev pub events_of : Inputs → List Event
 events_of [] = []
 events_of (Called order ∷ past) = begins order ++ events_of past
 events_of (Took from body ∷ past) = receives body ++ events_of past
@@ -47,7 +46,7 @@ suspects (Took from body ∷ past) w = suspects past w
 
 -- a module is as these inputs leave it
 pub record StandsFor (m : ConsensusOrder) (past : Inputs) : Type 0 where
-  pub broadcasts : rb.StandsFor id_cmp m.broadcasts (events_of past)
+  pub broadcasts : rb.StandsFor m.broadcasts (events_of past)
   pub delivery : deliveries.StandsFor m.delivery (received past) (decisions past)
   pub instances : tables.StandsFor m.instances (λ k. turns_of (tables.members_of m.instances) k past) (suspects past)
 
@@ -57,12 +56,12 @@ heard_by n from body past k = hears from (say_of k body) ++ turns_of n k past
 
 -- A body was taken after these inputs; what it decides is not delivered yet.
 pub record Heard (m : ConsensusOrder) (from : ℕ) (body : Body) (past : Inputs) : Type 0 where
-  pub broadcasts : rb.StandsFor id_cmp m.broadcasts (events_of (Took from body ∷ past))
+  pub broadcasts : rb.StandsFor m.broadcasts (events_of (Took from body ∷ past))
   pub delivery : deliveries.IsUpTo m.delivery (items_of (batches (decisions past))) (received (Took from body ∷ past)) (decisions (Took from body ∷ past))
   pub instances : tables.StandsFor m.instances (heard_by (tables.members_of m.instances) from body past) (suspects past)
 
 -- It is delivered; the instance that is due is not started yet.
 pub record Ready (m : ConsensusOrder) (from : ℕ) (body : Body) (past : Inputs) : Type 0 where
-  pub broadcasts : rb.StandsFor id_cmp m.broadcasts (events_of (Took from body ∷ past))
+  pub broadcasts : rb.StandsFor m.broadcasts (events_of (Took from body ∷ past))
   pub delivery : deliveries.StandsFor m.delivery (received (Took from body ∷ past)) (decisions (Took from body ∷ past))
   pub instances : tables.StandsFor m.instances (heard_by (tables.members_of m.instances) from body past) (suspects past)

@@ -28,7 +28,7 @@ use upd_base::{Body, Item, Kind, MemberId, NoMemory};
 #[derive(Drop)]
 pub struct ConsensusOrder {
     /// The broadcasts of items, by origin and number.
-    pub(crate) broadcasts: Rb<(u8, u32)>,
+    pub(crate) broadcasts: Rb,
     pub(crate) delivery: Delivery,
     pub(crate) instances: Instances,
     ghost same_members: { deliveries.members_of delivery ≡ tables.members_of instances },
@@ -73,13 +73,14 @@ impl ConsensusOrder {
         ensures stands { OnOk result ((from : ℕ) (past : Inputs) → StandsFor self.old past → Heard self.new from body.now past) }
         ensures sent { OnOk result ((past : Inputs) → StandsFor self.old past → out.new ≡ out.old ++ rules.passes_rb (seat_of self.old).members past body.now) }
     {
-        let Seen::First { pass_on } = self.broadcasts.receive(id(item))? else {
+        let (origin, number) = id(item);
+        let Seen::First { pass_on } = self.broadcasts.receive(origin, number)? else {
             return Ok(());
         };
         if pass_on {
             out.push_all(alloc, self.instances.members(), body)?;
         }
-        self.delivery.receive(item.copy()?)?;
+        self.delivery.receive(alloc, item.copy()?)?;
         Ok(())
     }
 

@@ -47,13 +47,13 @@ impl ConsensusOrder {
     }
 
     /// Delivers what a body that was taken makes deliverable.
-    fn deliver(&mut self, delivered: &mut Vec<Item>) -> Result<(), NoMemory>
+    fn deliver(&mut self, alloc: Global, delivered: &mut Vec<Item>) -> Result<(), NoMemory>
         ensures seat { seat_of self.new ≡ seat_of self.old }
         ensures items_fit { OnOk result (Grows (ItemFits (seat_of self.old).members) delivered.old.items delivered.new.items) }
         ensures stands { OnOk result ((from : ℕ) (body : Body) (past : Inputs) → Heard self.old from body past → Ready self.new from body past) }
         ensures delivered { OnOk result ((from : ℕ) (body : Body) (past : Inputs) (more : List Item) → Heard self.old from body past → delivers_by (seat_of self.old).members (seat_of self.old).me (Took from body ∷ past) ≡ delivers_by (seat_of self.old).members (seat_of self.old).me past ++ more → delivered.new.items ≡ delivered.old.items ++ more) }
     {
-        self.delivery.deliver(delivered)
+        self.delivery.deliver(alloc, delivered)
     }
 }
 
@@ -78,7 +78,7 @@ impl Ordering for ConsensusOrder {
     fn fresh(alloc: Global, _kind: Kind, n: u8, me: MemberId) -> Result<Self, NoMemory> {
         Ok(ConsensusOrder {
             broadcasts: Rb::new(alloc),
-            delivery: Delivery::new(alloc, n),
+            delivery: Delivery::new(alloc, n)?,
             instances: Instances::new(alloc, n, me),
         })
     }
@@ -96,7 +96,8 @@ impl Ordering for ConsensusOrder {
     }
 
     fn broadcast(&mut self, alloc: Global, item: &Item, out: &mut Outbox) -> Result<(), NoMemory> {
-        self.broadcasts.start(id(item))?;
+        let (origin, number) = id(item);
+        self.broadcasts.start(origin, number)?;
         let rb = Body::Rb { item: item.copy()? };
         out.push_all(alloc, self.instances.members(), &rb)
     }
@@ -110,7 +111,7 @@ impl Ordering for ConsensusOrder {
         delivered: &mut Vec<Item>,
     ) -> Result<(), NoMemory> {
         self.take(alloc, from, body, out)?;
-        self.deliver(delivered)?;
+        self.deliver(alloc, delivered)?;
         self.start_next(alloc, out)
     }
 

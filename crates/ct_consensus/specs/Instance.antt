@@ -1,5 +1,6 @@
 -- For which lists of inputs an instance stands, and where an input changes nothing.
 use Rattle.std.specs.Prelude.{ℕ, ◌≡◌, [], ◌∷◌}
+use Rattle.std.specs.Arc.{arc_value}
 use Rattle.fifo_net.specs.Net.{Called}
 use Rattle.instance_rules.specs.Say.{Turns, Suspects}
 use Rattle.instance_rules.specs.Place.{place}
@@ -9,7 +10,7 @@ use Rattle.ct_consensus.specs.declared.instance.Instance.{Instance}
 
 -- what it keeps is as these inputs leave it
 abbrev pub StandsFor : Instance → Turns → Type 0
-StandsFor i past = IsState i.seat.members i.seat.me i.state past
+StandsFor i past = IsState i.seat.members i.seat.me (arc_value i.state) past
 
 -- whose share of which instance it is
 abbrev pub number_of : Instance → ℕ

@@ -1,4 +1,5 @@
-ghost use Rattle.ct_consensus.specs.Stands.{StateFits, StateFits-prop};
+ghost use Rattle.std.specs.Arc.{arc_value};
+ghost use Rattle.ct_consensus.specs.Stands.{IsState, StateFits, StateFits-prop};
 
 use crate::running::Running;
 use crate::seat::Seat;
@@ -6,6 +7,7 @@ use crate::state;
 use crate::state::State;
 use order_trait::Outbox;
 use std::alloc::Global;
+use std::sync::Arc;
 use upd_base::{Batch, Body, MemberId, NoMemory};
 
 /// One member's share of one instance.
@@ -17,11 +19,13 @@ use upd_base::{Batch, Body, MemberId, NoMemory};
 ///
 /// Rows of suspicions say by member whom this one suspects. In `start` and `receive` that is the set that
 /// the list leaves; in `suspect` the one that it leaves with the new suspicion.
+///
+/// Copies share what they keep until one of them takes an input.
 #[derive(Drop)]
 pub struct Instance {
     seat: Seat,
-    state: State,
-    ghost fits: { StateFits seat.members state } by { StateFits-prop seat.members state },
+    state: Arc<State, Global>,
+    ghost fits: { StateFits seat.members (arc_value state) } by { StateFits-prop seat.members (arc_value state) },
 }
 
 impl Instance {
@@ -54,7 +58,7 @@ impl Instance {
             members: n,
             me,
         };
-        let state = State::Undecided(Running::new(alloc));
+        let state = Arc::new(alloc, State::Undecided(Running::new(alloc)))?;
         Ok(Instance { seat, state })
     }
 
@@ -71,8 +75,16 @@ impl Instance {
             members: self.seat.members,
             me: self.seat.me,
         };
-        let state = state::copy(&self.state, alloc)?;
+        let state = self.state.clone()?;
         Ok(Instance { seat, state })
+    }
+
+    /// A copy of what is kept, to be changed.
+    fn own_state(&self, alloc: Global) -> Result<State, NoMemory>
+        ensures stands { IfOk result (λ s. (past : Turns) → StandsFor self.now past → IsState (members_of self.now) (me_of self.now) s past) }
+        ensures fits { IfOk result (λ s. StateFits (members_of self.now) s) }
+    {
+        state::copy(&self.state, alloc)
     }
 
     /// The member begins with a batch of items that name only its members. Where it has a round already,
@@ -93,7 +105,9 @@ impl Instance {
         ensures sent { OnOk result ((past : Turns) → IsRow suspected.now (history.suspected past) → StandsFor self.old past → Sends (members_of self.old) (number_of self.old) out.old out.new (says (members_of self.old) (me_of self.old) (Called (Starts batch) ∷ past))) }
         ensures fits { OnOk result (Grows (SendFits (members_of self.old)) out.old out.new) }
     {
-        state::start(&mut self.state, alloc, &self.seat, batch, suspected, out)?;
+        let mut state = self.own_state(alloc)?;
+        state::start(&mut state, alloc, &self.seat, batch, suspected, out)?;
+        self.state = Arc::new(alloc, state)?;
         Ok(())
     }
 
@@ -116,15 +130,11 @@ impl Instance {
         ensures sent { OnOk result ((say : Say) (past : Turns) → say_of (number_of self.old) body.now ≡ Some say → IsRow suspected.now (history.suspected past) → StandsFor self.old past → Sends (members_of self.old) (number_of self.old) out.old out.new (says (members_of self.old) (me_of self.old) (Took from say ∷ past))) }
         ensures fits { OnOk result (Grows (SendFits (members_of self.old)) out.old out.new) }
     {
+        let mut state = self.own_state(alloc)?;
         state::take(
-            &mut self.state,
-            alloc,
-            &self.seat,
-            from,
-            body,
-            suspected,
-            out,
+            &mut state, alloc, &self.seat, from, body, suspected, out,
         )?;
+        self.state = Arc::new(alloc, state)?;
         Ok(())
     }
 
@@ -143,7 +153,9 @@ impl Instance {
         ensures sent { OnOk result ((past : Turns) (who : ℕ) → IsRow suspected.now (history.suspected (Called (Suspects who) ∷ past)) → StandsFor self.old past → Sends (members_of self.old) (number_of self.old) out.old out.new (says (members_of self.old) (me_of self.old) (Called (Suspects who) ∷ past))) }
         ensures fits { OnOk result (Grows (SendFits (members_of self.old)) out.old out.new) }
     {
-        state::suspect(&mut self.state, alloc, &self.seat, suspected, out)?;
+        let mut state = self.own_state(alloc)?;
+        state::suspect(&mut state, alloc, &self.seat, suspected, out)?;
+        self.state = Arc::new(alloc, state)?;
         Ok(())
     }
 

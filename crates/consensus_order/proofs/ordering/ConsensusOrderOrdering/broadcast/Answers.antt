@@ -7,5 +7,5 @@ use Rattle.consensus_order.proofs.ordering.ConsensusOrderOrdering.broadcast.Goal
 pub returns-clause-stands : goal.returns-clause-stands
 returns-clause-stands c =
     on_ok_weaker c.push_all.result
-    (λ pushed past s. begun_stands c.args.self.now _ c.args.item.now c.id.result past c.id.ensures (c.in_ok-start.ensures.stands (events_of past) s.broadcasts) refl refl s)
+    (λ pushed past s. begun_stands c.args.self.now _ c.args.item.now c.id-origin.result past c.id-origin.ensures (c.in_ok-start.ensures.stands (events_of past) s.broadcasts) refl refl s)
     c.push_all.ensures.ok

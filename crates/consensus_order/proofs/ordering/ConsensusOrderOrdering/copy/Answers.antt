@@ -1,6 +1,5 @@
 use Rattle.std.proofs.Common.{sym, subst}
 use Rattle.reliable_bcast.specs.Rb as rb
-use Rattle.waiting_items.specs.Ids.{id_cmp}
 use Rattle.consensus_rules.specs.Items.{received}
 use Rattle.consensus_rules.specs.Delivered.{decisions}
 use Rattle.consensus_rules.specs.Instances.{turns_of}
@@ -10,7 +9,7 @@ use Rattle.consensus_order.proofs.ordering.ConsensusOrderOrdering.copy.Goals as 
 
 pub returns-clause-stands : goal.returns-clause-stands
 returns-clause-stands c = λ past s. record {
-  broadcasts = subst (λ r. rb.StandsFor id_cmp r (events_of past)) (sym c.in_ok-copy.ensures) s.broadcasts;
+  broadcasts = subst (λ r. rb.StandsFor r (events_of past)) (sym c.in_ok-copy.ensures) s.broadcasts;
   delivery = c.in_ok-copy-2.ensures.stands (received past) (decisions past) s.delivery;
   instances = subst (λ n. tables.StandsFor c.in_ok-copy-3.field-0 (λ k. turns_of n k past) (suspects past)) (sym c.in_ok-copy-3.ensures.members)
       (c.in_ok-copy-3.ensures.stands (λ k. turns_of (tables.members_of c.args.self.now.instances) k past) (suspects past) s.instances);
