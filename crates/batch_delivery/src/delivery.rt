@@ -171,11 +171,7 @@ impl Delivery {
 
     /// Delivers what the decisions let be delivered: from the instance that is next up to the first that
     /// is not decided.
-    pub fn deliver(
-        &mut self,
-        alloc: Global,
-        delivered: &mut Vec<Item>,
-    ) -> Result<(), NoMemory>
+    pub fn deliver(&mut self, alloc: Global, delivered: &mut Vec<Item>) -> Result<(), NoMemory>
         ensures members { members_of self.new ≡ members_of self.old }
         ensures stands { OnOk result ((known items : Items) (ds : List (ℕ × Items)) → IsUpTo self.old known items ds → StandsFor self.new items ds) }
         ensures delivered { OnOk result ((known items : Items) (ds : List (ℕ × Items)) (more : Items) → IsUpTo self.old known items ds → items_of (batches ds) ≡ known ++ more → delivered.new.items ≡ delivered.old.items ++ more) }

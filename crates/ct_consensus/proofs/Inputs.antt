@@ -1,7 +1,6 @@
 use Rattle.std.proofs.Common.{ℕ, ◌≡◌, ◌<◌, ◌≤◌, Bool, true, false, cond, ◌||◌, List, [], ◌∷◌, ◌++◌, Option, Some, None, refl, sym, ap, ◌∙◌, subst, append-nil}
 use Rattle.std.specs.Option.{is_some}
-use Rattle.std.specs.Ordering.{nat_cmp}
-use Rattle.std.specs.BTreeMap.{get}
+use Rattle.ct_consensus.specs.Ballots.{kept_of}
 use Rattle.std.specs.List.{list_any}
 use Rattle.fifo_net.specs.Net.{Input, Called, Took}
 use Rattle.instance_rules.specs.Say.{Act, Say, Turns, last_round}
@@ -49,8 +48,8 @@ called n me running after act past fits not_me old at led ballots =
       settled = subst (Settled n (suspected (Called act ∷ past))) (sym here) (moves_settled n me past (Called act) (place n past) fits not_me old.low tt old.settled);
       low = subst (λ p. p.round ≤ last_round) (sym here) (moves_low n past (Called act) (place n past) old.low tt);
       led = led ∙ old.led;
-      ballots = λ r mine. subst (λ m. IsKept n r (Called act ∷ past) (get nat_cmp m r)) (sym ballots)
-          (same_kept n r (Called act) past (get nat_cmp running.ballots r) refl refl (old.ballots r mine));
+      ballots = λ r mine. subst (λ m. IsKept n r (Called act ∷ past) (kept_of m r)) (sym ballots)
+          (same_kept n r (Called act) past (kept_of running.ballots r) refl refl (old.ballots r mine));
     }
 
 -- So does what is no vote and no decision.
@@ -67,8 +66,8 @@ took n me running after from say past fits not_me is no_decision no_lead no_esti
       settled = subst (Settled n (suspected (x ∷ past))) (sym here) (moves_settled n me past x (place n past) fits not_me old.low is old.settled);
       low = subst (λ p. p.round ≤ last_round) (sym here) (moves_low n past x (place n past) old.low is);
       led = led ∙ old.led ∙ sym (ap (λ l. has_led n me past || list_any (λ p. is_some (decides p.1)) l) no_lead ∙ or_false (has_led n me past));
-      ballots = λ r mine. subst (λ m. IsKept n r (x ∷ past) (get nat_cmp m r)) (sym ballots)
-          (same_kept n r x past (get nat_cmp running.ballots r) (same_votes (estimate_for r) from say past (no_estimate r)) (same_votes (reply_for r) from say past (no_reply r)) (old.ballots r mine));
+      ballots = λ r mine. subst (λ m. IsKept n r (x ∷ past) (kept_of m r)) (sym ballots)
+          (same_kept n r x past (kept_of running.ballots r) (same_votes (estimate_for r) from say past (no_estimate r)) (same_votes (reply_for r) from say past (no_reply r)) (old.ballots r mine));
     }
 
 -- what it says where it only moves

@@ -1,7 +1,6 @@
 use Rattle.std.proofs.Common.{ℕ, zero, suc, ◌≡◌, ◌≤◌, inl, inr, eqb, Bool, true, false, cond, ◌||◌, List, [], ◌∷◌, ◌++◌, Option, Some, None, refl, sym, ap, ◌∙◌, subst, arith, append-nil}
 use Rattle.std.specs.Option.{is_some, IfSome}
-use Rattle.std.specs.Ordering.{nat_cmp}
-use Rattle.std.specs.BTreeMap.{get}
+use Rattle.ct_consensus.specs.Ballots.{kept_of}
 use Rattle.std.specs.List.{list_any}
 use Rattle.std.proofs.lemmas.Bool.{cases_eq, cond-true, cond-false, eq-eqb, ne_eqb}
 use Rattle.std.proofs.lemmas.List.{map-append}
@@ -132,8 +131,8 @@ pub voted : (n me : ℕ) (running after : Running) (from round : ℕ) (say : Say
     → decides say ≡ None → ((p : Place) → moves n past (Took from say) p ≡ stay p)
     → ((r : ℕ) → (r ≡ round → ⊥) → estimate_for r say ≡ None) → ((r : ℕ) → (r ≡ round → ⊥) → reply_for r say ≡ None)
     → IsRunning n me running past → after.place ≡ running.place → after.led ≡ (running.led || list_any is_decide (leads n me past from say))
-    → (coordinates n me round ≡ true → IsKept n round past (get nat_cmp running.ballots round) → IsKept n round (Took from say ∷ past) (get nat_cmp after.ballots round))
-    → ((r : ℕ) → (r ≡ round → ⊥) → get nat_cmp after.ballots r ≡ get nat_cmp running.ballots r)
+    → (coordinates n me round ≡ true → IsKept n round past (kept_of running.ballots round) → IsKept n round (Took from say ∷ past) (kept_of after.ballots round))
+    → ((r : ℕ) → (r ≡ round → ⊥) → kept_of after.ballots r ≡ kept_of running.ballots r)
     → IsRunning n me after (Took from say ∷ past)
 voted n me running after from round say past no_decision stays no_estimate no_reply old at led here others =
     let x : Input Act Say = Took from say in
@@ -145,10 +144,10 @@ voted n me running after from round say past no_decision stays no_estimate no_re
       low = subst (λ p. p.round ≤ last_round) (sym same) old.low;
       led = led ∙ ap (λ b. b || list_any is_decide (leads n me past from say)) old.led;
       ballots = λ r mine. elim (cases_eq r round) [
-        | inl e ↦ subst (λ k. IsKept n k (x ∷ past) (get nat_cmp after.ballots k)) (sym e)
-            (here (subst (λ k. coordinates n me k ≡ true) e mine) (subst (λ k. IsKept n k past (get nat_cmp running.ballots k)) e (old.ballots r mine)))
+        | inl e ↦ subst (λ k. IsKept n k (x ∷ past) (kept_of after.ballots k)) (sym e)
+            (here (subst (λ k. coordinates n me k ≡ true) e mine) (subst (λ k. IsKept n k past (kept_of running.ballots k)) e (old.ballots r mine)))
         | inr ne ↦ subst (IsKept n r (x ∷ past)) (sym (others r ne))
-            (same_kept n r x past (get nat_cmp running.ballots r) (same_votes (estimate_for r) from say past (no_estimate r ne)) (same_votes (reply_for r) from say past (no_reply r ne)) (old.ballots r mine))
+            (same_kept n r x past (kept_of running.ballots r) (same_votes (estimate_for r) from say past (no_estimate r ne)) (same_votes (reply_for r) from say past (no_reply r ne)) (old.ballots r mine))
       ];
     }
 

@@ -7,3 +7,4 @@ pub mod Leading
 pub mod Decided
 pub mod Longer
 pub mod Closing
+pub mod Kept

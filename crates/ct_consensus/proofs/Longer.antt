@@ -1,6 +1,5 @@
 use Rattle.std.proofs.Common.{ℕ, zero, suc, ◌+◌, ◌≡◌, ◌≤◌, inl, inr, eqb, ltb, Bool, true, cond, not, ◌&&◌, ◌∷◌, refl, sym, ap, ◌∙◌, subst, arith}
-use Rattle.std.specs.Ordering.{nat_cmp}
-use Rattle.std.specs.BTreeMap.{get}
+use Rattle.ct_consensus.specs.Ballots.{kept_of}
 use Rattle.std.proofs.lemmas.Bool.{cases_Bool, cond_both, cond-true, cond-false, ltb-false, and_parts}
 use Rattle.fifo_net.specs.Net.{Called}
 use Rattle.instance_rules.specs.declared.place.Place.{Place}
@@ -25,7 +24,7 @@ unmoved n me running act past old same settled = record {
   settled = subst (Settled n (suspected (Called act ∷ past))) (sym same) settled;
   low = subst (λ p. p.round ≤ last_round) (sym same) old.low;
   led = old.led;
-  ballots = λ r mine. same_kept n r (Called act) past (get nat_cmp running.ballots r) refl refl (old.ballots r mine);
+  ballots = λ r mine. same_kept n r (Called act) past (kept_of running.ballots r) refl refl (old.ballots r mine);
 }
 
 -- after a trust

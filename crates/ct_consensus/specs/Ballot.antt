@@ -55,3 +55,7 @@ concludes None proposed = false
 concludes (Some agree) None = false
 concludes (Some true) (Some batch) = true
 concludes (Some false) (Some batch) = false
+
+-- what is kept of a round in which nothing is sent any more
+abbrev pub over : Ballot
+over = record { proposal = Over; replies = None }

@@ -1,4 +1,5 @@
 pub mod Ballot
+pub mod Ballots
 pub mod Moves
 pub mod Fit
 pub mod Stance

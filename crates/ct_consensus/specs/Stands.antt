@@ -1,7 +1,5 @@
 -- For which lists of inputs an instance stands.
 use Rattle.std.specs.Prelude.{ℕ, true, ◌≡◌, ◌≤◌, Option, Some, None}
-use Rattle.std.specs.Ordering.{nat_cmp}
-use Rattle.std.specs.BTreeMap.{get}
 use Rattle.instance_rules.specs.declared.place.Place.{Place}
 use Rattle.instance_rules.specs.Say.{Turns, last_round}
 use Rattle.instance_rules.specs.History.{suspected, decided}
@@ -10,6 +8,7 @@ use Rattle.instance_rules.specs.Says.{coordinates, has_led}
 use Rattle.std.specs.Coded.{Unit-prop, le_prop}
 use mathlib.Core.Bool.{Bool-set}
 use Rattle.ct_consensus.specs.Ballot.{IsKept, ProposalFits}
+use Rattle.ct_consensus.specs.Ballots.{kept_of}
 use Rattle.ct_consensus.specs.declared.ballot.Ballot.{Ballot}
 use Rattle.ct_consensus.specs.declared.ballot.Proposal.{Proposal}
 use Rattle.ct_consensus.specs.declared.ballot.Proposal.TheVariants.{Awaited, Made, Over}
@@ -26,7 +25,7 @@ pub record IsRunning (n me : ℕ) (running : Running) (past : Turns) : Type 0 wh
   pub settled : Settled n (suspected past) (rules.place n past)
   pub low : (rules.place n past).round ≤ last_round
   pub led : running.led ≡ has_led n me past
-  pub ballots : (r : ℕ) → coordinates n me r ≡ true → IsKept n r past (get nat_cmp running.ballots r)
+  pub ballots : (r : ℕ) → coordinates n me r ≡ true → IsKept n r past (kept_of running.ballots r)
 
 -- and what is kept at all
 abbrev pub IsState : ℕ → ℕ → State → Turns → Type 0
@@ -59,6 +58,6 @@ MayStand-prop n (Some p) = λ a b i. record { in_round = le_prop a.in_round b.in
 pub StateFits-prop : (n : ℕ) (s : State) → IsProp (StateFits n s)
 StateFits-prop n (Undecided running) = λ a b i. record {
   place = MayStand-prop n running.place a.place b.place i;
-  ballots = λ r. MayFit-prop n (get nat_cmp running.ballots r) (a.ballots r) (b.ballots r) i;
+  ballots = λ r. MayFit-prop n (kept_of running.ballots r) (a.ballots r) (b.ballots r) i;
 }
 StateFits-prop n (Decided decision) = Unit-prop

@@ -1,4 +1,4 @@
-ghost use Rattle.std.specs.Prelude.{ℕ, Bool, ◌≡◌, ◌<◌, ◌≤◌, ◌++◌, true, List, [], None, Some, length, IfOk, IfSome, IsSome, OnOk, OnErr};
+ghost use Rattle.std.specs.Prelude.{ℕ, Bool, ◌↔◌, IsTrue, ◌≡◌, ◌<◌, ◌≤◌, ◌++◌, true, List, [], None, Some, length, IfOk, IfSome, IsSome, OnOk, OnErr};
 ghost use Rattle.instance_rules.specs.declared.estimate.Estimate.{Estimate};
 ghost use Rattle.std.specs.List.{list_any, list_all, All};
 ghost use Rattle.instance_rules.specs.Say as say;
@@ -8,7 +8,7 @@ ghost use Rattle.instance_rules.specs.Ballot.{is_from, vote, best_of, quorum, al
 ghost use Rattle.std.specs.Global.{Vec};
 ghost use Rattle.std.specs.Prelude.{Option};
 ghost use Rattle.instance_rules.specs.Say.{Turns};
-ghost use Rattle.ct_consensus.specs.Ballot.{all_fit, IsCounted, IsTallied, ClosesWith, IsPending, IsKept, ProposalFits, concludes};
+ghost use Rattle.ct_consensus.specs.Ballot.{all_fit, over, IsCounted, IsTallied, ClosesWith, IsPending, IsKept, ProposalFits, concludes};
 
 use crate::seat::Seat;
 use instance_rules::Estimate;
@@ -213,6 +213,26 @@ impl Ballot {
         }
     }
 
+    /// Of a round in which nothing is sent any more.
+    pub fn over() -> Ballot
+        ensures { result ≡ over }
+    {
+        Ballot {
+            proposal: Proposal::Over,
+            replies: None,
+        }
+    }
+
+    /// Whether nothing is sent in the round any more.
+    pub fn is_over(&self) -> bool
+        ensures { IsTrue result ↔ (self.now ≡ over) }
+    {
+        match (&self.proposal, &self.replies) {
+            (Proposal::Over, None) => true,
+            _ => false,
+        }
+    }
+
     /// Counts a member's estimate. What it gives is to be proposed: this one made the majority.
     pub fn count_estimate(
         &mut self,
@@ -228,6 +248,7 @@ impl Ballot {
         ensures closes { ClosesWith self.old.replies self.old.proposal → ClosesWith self.new.replies self.new.proposal }
         ensures fits { ProposalFits seat.now.members self.old.proposal → ProposalFits seat.now.members self.new.proposal }
         ensures sent_fits { ProposalFits seat.now.members self.old.proposal → IfOk result (λ made. IfSome made (λ batch. all_fit seat.now.members batch ≡ true)) }
+        ensures over { self.old ≡ over → self.new ≡ over }
     {
         match &mut self.proposal {
             Proposal::Awaited(votes) => {
@@ -301,6 +322,7 @@ impl Ballot {
         ensures closes { ClosesWith self.old.replies self.old.proposal → OnOk result (ClosesWith self.new.replies self.new.proposal) }
         ensures fits { (n : ℕ) → ProposalFits n self.old.proposal → ProposalFits n self.new.proposal }
         ensures batch_fits { (n : ℕ) → ProposalFits n self.old.proposal → IfOk result (λ found. IfSome found.1 (λ batch. all_fit n batch ≡ true)) }
+        ensures over { self.old ≡ over → self.new ≡ over }
     {
         let Some(agreed) = self.count_reply(seat, from, agree)? else {
             return Ok((None, None));

@@ -58,7 +58,7 @@ impl Instance {
             members: n,
             me,
         };
-        let state = Arc::new(alloc, State::Undecided(Running::new(alloc)))?;
+        let state = Arc::new(alloc, State::Undecided(Running::new(alloc, n)))?;
         Ok(Instance { seat, state })
     }
 
@@ -131,9 +131,7 @@ impl Instance {
         ensures fits { OnOk result (Grows (SendFits (members_of self.old)) out.old out.new) }
     {
         let mut state = self.own_state(alloc)?;
-        state::take(
-            &mut state, alloc, &self.seat, from, body, suspected, out,
-        )?;
+        state::take(&mut state, alloc, &self.seat, from, body, suspected, out)?;
         self.state = Arc::new(alloc, state)?;
         Ok(())
     }

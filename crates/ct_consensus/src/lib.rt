@@ -3,9 +3,11 @@
 #![tactic(auto)]
 
 mod ballot;
+mod ballots;
 mod instance;
 mod laws;
 mod moves;
+mod open_rounds;
 mod running;
 mod seat;
 mod stance;

@@ -1,6 +1,4 @@
 ghost use Rattle.std.specs.Prelude.{ℕ, Bool, ◌≡◌, ◌≢◌, ◌≤◌, ◌∷◌, ◌++◌, ◌||◌, [], true, None, Some, OnOk, IfOk, IfSome};
-ghost use Rattle.std.specs.Ordering.{nat_cmp};
-ghost use Rattle.std.specs.BTreeMap.{get, insert_entry};
 ghost use Rattle.fifo_net.specs.Net.{Called, Took};
 ghost use Rattle.upd_base.specs.Body.{BodyFits, is_body};
 ghost use Rattle.order_trait.specs.Outbox.{Grows, SendFits};
@@ -10,19 +8,20 @@ ghost use Rattle.instance_rules.specs.History.{decides};
 ghost use Rattle.instance_rules.specs.Ballot.{firsts, estimate_for, reply_for, vote, quorum, best_of, all_yes, proposal};
 ghost use Rattle.instance_rules.specs.Says as leading;
 ghost use Rattle.instance_rules.specs.Bodies.{body_of, say_of};
+ghost use Rattle.ct_consensus.specs.Ballots.{kept_of};
 ghost use Rattle.ct_consensus.specs.Ballot.{all_fit, IsKept, ProposalFits, concludes};
 ghost use Rattle.ct_consensus.specs.Moves.{IsRow, TrustsItself, Sends};
 ghost use Rattle.ct_consensus.specs.Fit.{MayFit, BallotsFit};
 ghost use Rattle.ct_consensus.specs.Stance.{standing};
 ghost use Rattle.ct_consensus.specs.Stands.{IsRunning, RunningFits};
 
-use crate::ballot::{Ballot, is_decision};
+use crate::ballot::is_decision;
+use crate::ballots::Ballots;
 use crate::seat::Seat;
 use crate::stance;
 use instance_rules::{Estimate, Place};
 use order_trait::Outbox;
 use std::alloc::Global;
-use std::collections::BTreeMap;
 use upd_base::{Batch, Body, MemberId, NoMemory};
 
 /// What is kept before a decision.
@@ -30,53 +29,10 @@ use upd_base::{Batch, Body, MemberId, NoMemory};
 pub struct Running {
     /// None before the member takes part.
     pub place: Option<Place>,
-    /// By number, the rounds that it coordinates and of which it has taken an estimate or a reply.
-    pub ballots: BTreeMap<u64, Ballot>,
+    /// Of the rounds that it coordinates.
+    pub ballots: Ballots,
     /// Whether it has started the broadcast of a decision itself.
     pub led: bool,
-}
-
-/// Takes out what is kept of a round.
-fn take_ballot(alloc: Global, ballots: &mut BTreeMap<u64, Ballot>, round: u64) -> Ballot
-    ensures kept { (n : ℕ) (past : Turns) → IsKept n round past (get nat_cmp ballots.old round) → IsKept n round past (Some result) }
-    ensures others { (r : ℕ) → r ≢ round → get nat_cmp ballots.new r ≡ get nat_cmp ballots.old r }
-    ensures fits { (n : ℕ) → MayFit n (get nat_cmp ballots.old round) → ProposalFits n result.proposal }
-    ensures rest_fits { (n : ℕ) → BallotsFit n ballots.old → BallotsFit n ballots.new }
-{
-    match ballots.remove(&round) {
-        Some(ballot) => ballot,
-        None => Ballot::new(alloc),
-    }
-}
-
-/// Puts in what is kept of a round.
-fn put_ballot(
-    ballots: &mut BTreeMap<u64, Ballot>,
-    round: u64,
-    ballot: Ballot,
-) -> Result<(), NoMemory>
-    ensures here { OnOk result (get nat_cmp ballots.new round ≡ Some ballot) }
-    ensures entries { OnOk result (ballots.new.entries ≡ insert_entry nat_cmp ballots.old.entries round ballot) }
-    ensures others { OnOk result ((r : ℕ) → r ≢ round → get nat_cmp ballots.new r ≡ get nat_cmp ballots.old r) }
-    ensures fits { (n : ℕ) → BallotsFit n ballots.old → ProposalFits n ballot.proposal → BallotsFit n ballots.new }
-{
-    ballots.insert(round, ballot)?;
-    Ok(())
-}
-
-/// What is kept of the same rounds.
-fn copy_ballots(
-    alloc: Global,
-    ballots: &BTreeMap<u64, Ballot>,
-) -> Result<BTreeMap<u64, Ballot>, NoMemory>
-    ensures kept { IfOk result (λ copies. (n r : ℕ) (past : Turns) → IsKept n r past (get nat_cmp ballots.now r) → IsKept n r past (get nat_cmp copies r)) }
-    ensures fits { IfOk result (λ copies. (n : ℕ) → BallotsFit n ballots.now → BallotsFit n copies) }
-{
-    let mut copies = BTreeMap::new(alloc);
-    for (round, ballot) in ballots.iter() {
-        put_ballot(&mut copies, *round, ballot.copy(alloc)?)?;
-    }
-    Ok(copies)
 }
 
 /// The same place, where there is one.
@@ -93,21 +49,21 @@ fn copy_place(alloc: Global, place: &Option<Place>) -> Result<Option<Place>, NoM
 fn count_estimate(
     alloc: Global,
     seat: &Seat,
-    ballots: &mut BTreeMap<u64, Ballot>,
+    ballots: &mut Ballots,
     from: MemberId,
     round: u64,
     held: Estimate,
 ) -> Result<Option<Batch>, NoMemory>
     requires { all_fit seat.now.members held.batch ≡ true }
-    ensures kept { OnOk result ((past : Turns) → IsKept seat.now.members round past (get nat_cmp ballots.old round) → IsKept seat.now.members round (Took from (Estimates round held) ∷ past) (get nat_cmp ballots.new round)) }
-    ensures others { OnOk result ((r : ℕ) → r ≢ round → get nat_cmp ballots.new r ≡ get nat_cmp ballots.old r) }
-    ensures made { IfOk result (λ proposed. (past : Turns) → IsKept seat.now.members round past (get nat_cmp ballots.old round) → proposed ≡ leading.made (best_of (quorum seat.now.members (firsts (estimate_for round) past))) (best_of (quorum seat.now.members (firsts (estimate_for round) past ++ vote (firsts (estimate_for round) past) from (Some held))))) }
+    ensures kept { OnOk result ((past : Turns) → IsKept seat.now.members round past (kept_of ballots.old round) → IsKept seat.now.members round (Took from (Estimates round held) ∷ past) (kept_of ballots.new round)) }
+    ensures others { OnOk result ((r : ℕ) → r ≢ round → kept_of ballots.new r ≡ kept_of ballots.old r) }
+    ensures made { IfOk result (λ proposed. (past : Turns) → IsKept seat.now.members round past (kept_of ballots.old round) → proposed ≡ leading.made (best_of (quorum seat.now.members (firsts (estimate_for round) past))) (best_of (quorum seat.now.members (firsts (estimate_for round) past ++ vote (firsts (estimate_for round) past) from (Some held))))) }
     ensures fits { BallotsFit seat.now.members ballots.old → BallotsFit seat.now.members ballots.new }
     ensures sent_fits { BallotsFit seat.now.members ballots.old → IfOk result (λ proposed. IfSome proposed (λ batch. all_fit seat.now.members batch ≡ true)) }
 {
-    let mut ballot = take_ballot(alloc, ballots, round);
+    let mut ballot = ballots.take(alloc, round);
     let proposed = ballot.count_estimate(alloc, seat, from, held)?;
-    put_ballot(ballots, round, ballot)?;
+    ballots.put(round, ballot)?;
     Ok(proposed)
 }
 
@@ -116,21 +72,21 @@ fn count_estimate(
 fn count_reply(
     alloc: Global,
     seat: &Seat,
-    ballots: &mut BTreeMap<u64, Ballot>,
+    ballots: &mut Ballots,
     from: MemberId,
     round: u64,
     agree: bool,
 ) -> Result<(Option<bool>, Option<Batch>), NoMemory>
-    ensures kept { OnOk result ((past : Turns) → IsKept seat.now.members round past (get nat_cmp ballots.old round) → IsKept seat.now.members round (Took from (Replies round agree) ∷ past) (get nat_cmp ballots.new round)) }
-    ensures others { OnOk result ((r : ℕ) → r ≢ round → get nat_cmp ballots.new r ≡ get nat_cmp ballots.old r) }
-    ensures verdict { IfOk result (λ found. (past : Turns) → IsKept seat.now.members round past (get nat_cmp ballots.old round) → found.0 ≡ leading.made (all_yes (quorum seat.now.members (firsts (reply_for round) past))) (all_yes (quorum seat.now.members (firsts (reply_for round) past ++ vote (firsts (reply_for round) past) from (Some agree))))) }
-    ensures batch { IfOk result (λ found. (past : Turns) (agreed : Bool) → found.0 ≡ Some agreed → IsKept seat.now.members round past (get nat_cmp ballots.old round) → found.1 ≡ proposal seat.now.members round past) }
+    ensures kept { OnOk result ((past : Turns) → IsKept seat.now.members round past (kept_of ballots.old round) → IsKept seat.now.members round (Took from (Replies round agree) ∷ past) (kept_of ballots.new round)) }
+    ensures others { OnOk result ((r : ℕ) → r ≢ round → kept_of ballots.new r ≡ kept_of ballots.old r) }
+    ensures verdict { IfOk result (λ found. (past : Turns) → IsKept seat.now.members round past (kept_of ballots.old round) → found.0 ≡ leading.made (all_yes (quorum seat.now.members (firsts (reply_for round) past))) (all_yes (quorum seat.now.members (firsts (reply_for round) past ++ vote (firsts (reply_for round) past) from (Some agree))))) }
+    ensures batch { IfOk result (λ found. (past : Turns) (agreed : Bool) → found.0 ≡ Some agreed → IsKept seat.now.members round past (kept_of ballots.old round) → found.1 ≡ proposal seat.now.members round past) }
     ensures fits { BallotsFit seat.now.members ballots.old → BallotsFit seat.now.members ballots.new }
     ensures batch_fits { BallotsFit seat.now.members ballots.old → IfOk result (λ found. IfSome found.1 (λ batch. all_fit seat.now.members batch ≡ true)) }
 {
-    let mut ballot = take_ballot(alloc, ballots, round);
+    let mut ballot = ballots.take(alloc, round);
     let found = ballot.conclude(seat, from, agree)?;
-    put_ballot(ballots, round, ballot)?;
+    ballots.put(round, ballot)?;
     Ok(found)
 }
 
@@ -211,14 +167,15 @@ fn conclude(
 }
 
 impl Running {
-    /// Before any input.
-    pub fn new(alloc: Global) -> Running
+    /// Before any input, in a group of so many members.
+    pub fn new(alloc: Global, members: u8) -> Running
+        requires { members ≢ 0 }
         ensures stands { (n me : ℕ) → IsRunning n me result [] }
         ensures fits { (n : ℕ) → RunningFits n result }
     {
         Running {
             place: None,
-            ballots: BTreeMap::new(alloc),
+            ballots: Ballots::new(alloc, members),
             led: false,
         }
     }
@@ -230,7 +187,7 @@ impl Running {
     {
         Ok(Running {
             place: copy_place(alloc, &self.place)?,
-            ballots: copy_ballots(alloc, &self.ballots)?,
+            ballots: self.ballots.copy(alloc)?,
             led: self.led,
         })
     }

@@ -10,11 +10,11 @@ returns-clause-stands c = λ n me past stood. record {
   settled = stood.settled;
   low = stood.low;
   led = stood.led;
-  ballots = λ r mine. c.in_ok-copy_ballots.ensures.kept n r past (stood.ballots r mine);
+  ballots = λ r mine. c.in_ok-copy.ensures.kept n r past (stood.ballots r mine);
 }
 
 pub returns-clause-fits : goal.returns-clause-fits
 returns-clause-fits c = λ n fits. record {
   place = subst (MayStand n) (sym c.in_ok-copy_place.ensures) fits.place;
-  ballots = c.in_ok-copy_ballots.ensures.fits n fits.ballots;
+  ballots = c.in_ok-copy.ensures.fits n fits.ballots;
 }
