@@ -1,8 +1,8 @@
 -- Items in strictly ascending order of origin and number.
-use Rattle.std.proofs.Common.{ℕ, zero, suc, ◌≡◌, ◌<◌, ◌≤◌, ◌⊎◌, inl, inr, eqb, ltb, leb, Bool, true, false, cond, List, [], ◌∷◌, length, take, Some, None, refl, sym, ap, ◌∙◌, subst, arith, ◌&&◌}
+use Rattle.std.proofs.Common.{ℕ, zero, suc, ◌≡◌, ◌<◌, ◌≤◌, ◌⊎◌, inl, inr, eqb, ltb, leb, Bool, true, false, cond, List, [], ◌∷◌, length, take, Some, None, refl, sym, ap, ◌∙◌, arith, ◌&&◌}
 use Rattle.std.specs.List.{All, filter}
-use Rattle.std.proofs.lemmas.Bool.{cases_Bool, cases_eq, cases_lt, cond-true, cond-false, eq-eqb, ne_eqb, eqb-true, ltb-true, lt-ltb, le-ltb, le-leb, or_cases, or_left, or_right, or_from, or_parts, and_from, and_left, and_right, and_parts, both_ways}
-use Rattle.std.proofs.lemmas.List.Elements.{All-cons, All-head, All-tail, All-nil}
+use Rattle.std.proofs.lemmas.Bool.{cases_Bool, cases_eq, cases_lt, cond-true, cond-false, eq-eqb, eqb-true, ltb-true, lt-ltb, le-leb, or_cases, or_left, or_right, or_parts, and_from, and_parts, both_ways}
+use Rattle.std.proofs.lemmas.List.Elements.{All-cons, All-head, All-tail}
 use Rattle.upd_base.specs.Item.{id_of, has_id, origin_of, number_of, stands_before}
 use Rattle.upd_base.specs.Batch.{ascends, comes_first, is_batch, batch}
 use Rattle.upd_base.specs.declared.item.Item.{Item}

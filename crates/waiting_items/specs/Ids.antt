@@ -1,5 +1,5 @@
 -- Items by their origin and number.
-use Rattle.std.specs.Prelude.{◌≡◌, not, List, [], ◌∷◌, take, Option, Some, None}
+use Rattle.std.specs.Prelude.{not, List, [], ◌∷◌, take, Option, Some, None}
 use Rattle.std.specs.List.{filter}
 use Rattle.upd_base.specs.declared.item.Item.{Item}
 use Rattle.upd_base.specs.declared.limits.TheConstants.{MAX_BATCH}

@@ -1,4 +1,4 @@
-use Rattle.std.proofs.Common.{ℕ, ◌-◌, ◌≡◌, ◌<◌, arith, refl, ◌++◌, ◌∷◌, [], ap, sym, ◌∙◌, subst, append_assoc, take, drop, length}
+use Rattle.std.proofs.Common.{ℕ, ◌-◌, ◌≡◌, ◌++◌, ◌∷◌, [], ap, sym, ◌∙◌, subst, append_assoc, take, drop, length}
 use Rattle.std.specs.List.{All}
 use Rattle.std.proofs.lemmas.List.Elements.{All-head}
 use Rattle.std.proofs.lemmas.Result.{on_ok_weaker}

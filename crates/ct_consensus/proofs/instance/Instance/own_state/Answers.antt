@@ -1,4 +1,4 @@
-use Rattle.std.proofs.Common.{ℕ, sym, ap, subst}
+use Rattle.std.proofs.Common.{ℕ, sym, subst}
 use Rattle.std.proofs.lemmas.Result.{IfOk-weaker}
 use Rattle.ct_consensus.specs.Stands.{StateFits}
 use Rattle.ct_consensus.proofs.instance.Instance.own_state.Goals as goal

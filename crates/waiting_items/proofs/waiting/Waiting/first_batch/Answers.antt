@@ -1,4 +1,4 @@
-use Rattle.std.proofs.Common.{rules, true, ◌≡◌, ◌≤◌, ◌⊎◌, inl, inr, length, sym, ap, ◌∙◌, List, arith}
+use Rattle.std.proofs.Common.{rules, ◌≡◌, ◌≤◌, ◌⊎◌, inl, inr, length, sym, ap, ◌∙◌, List, arith}
 use Rattle.std.proofs.lemmas.List.{length-take-le}
 use Rattle.upd_base.specs.Batch.{ascends, batch}
 use Rattle.upd_base.specs.declared.item.Item.{Item}
