@@ -1,1 +1,3 @@
-pub mod Lowest
+pub mod Earliest
+pub mod Order
+pub mod Queue

@@ -1,5 +1,5 @@
 -- Frames that come before their time.
-use Rattle.std.specs.Prelude.{ℕ, Bool, false, ◌==◌, ◌&&◌, if◌then◌else◌, nat_le, Option, Some, None, List, [], ◌∷◌}
+use Rattle.std.specs.Prelude.{ℕ, Bool, ◌==◌, ◌&&◌, if◌then◌else◌, nat_le, Option, Some, None, List, [], ◌∷◌}
 use Rattle.std.specs.List.{list_any}
 use Rattle.upd_base.specs.declared.frame.Frame.{Frame}
 
@@ -21,18 +21,3 @@ first_ready version (h ∷ held) = if nat_le h.1.version version then Some h els
 abbrev pub without_ready : ℕ → List (ℕ × Frame) → List (ℕ × Frame)
 without_ready version [] = []
 without_ready version (h ∷ held) = if nat_le h.1.version version then held else h ∷ without_ready version held
-
--- the lower of a version and a version that may be there
-abbrev pub lower : ℕ → Option ℕ → ℕ
-lower version None = version
-lower version (Some other) = if nat_le version other then version else other
-
--- the lowest of a version that may be there and those of some frames
-abbrev pub lowest_from : Option ℕ → List (ℕ × Frame) → Option ℕ
-lowest_from so_far [] = so_far
-lowest_from so_far (h ∷ held) = lowest_from (Some (lower h.1.version so_far)) held
-
--- a version that may be there is at most this one
-abbrev pub is_reached : ℕ → Option ℕ → Bool
-is_reached version None = false
-is_reached version (Some lowest) = nat_le lowest version

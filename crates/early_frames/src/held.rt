@@ -1,29 +1,35 @@
-ghost use Rattle.std.specs.Prelude.{◌≡◌, ◌≤◌, ◌+◌, ◌-◌, [], ◌∷◌, ◌++◌, length, None, OnOk, OnErr, is_some, option_copied, slice_get, vec_len, vec_capacity};
-ghost use Rattle.std.specs.List.{remove};
-ghost use Rattle.early_frames.specs.Held.{first_ready, is_reached, lower, lowest_from, waits, without_ready};
+ghost use Rattle.std.specs.Prelude.{◌≡◌, ◌≤◌, ◌+◌, [], ◌∷◌, ◌++◌, OnOk, OnErr, is_some, option_copied};
+ghost use Rattle.early_frames.specs.Held.{first_ready, waits, without_ready};
 
+use crate::arrivals::{Arrival, first_among, is_reached, put, take_first, waits_among};
+use crate::numbers::renumber;
 use std::alloc::Global;
+use std::collections::VecDeque;
 use std::marker::Model;
 use upd_base::{Frame, MemberId, NoMemory};
 
-/// Frames with their senders, in the order of arrival. While no held frame's version is reached,
-/// every question is answered by the lowest version that is held, without a look at the frames.
+/// Frames with their senders, seen in the order of arrival. They stand by version, those of one version
+/// in the order of arrival, so that no call goes through all of them: a version is found by a binary
+/// search, and a frame that is put or taken moves those in front of it or those behind it, whichever
+/// are fewer.
 #[derive(Drop)]
 pub struct Held {
-    kept: Vec<(MemberId, Frame)>,
-    /// The lowest version of a held frame; None where nothing is held.
-    lowest: Option<u16>,
+    kept: VecDeque<Arrival>,
+    /// The number of the next frame, above those of all that are held.
+    next: u64,
 }
 
 impl Model for Held {
-    ghost use Rattle.std.specs.Prelude.{◌≡◌, ◌-◌, None, vec_len, vec_capacity};
-    ghost use Rattle.early_frames.specs.Held.{Kept, lowest_from};
+    ghost use Rattle.std.specs.Prelude.{◌-◌, ◌^◌, min};
+    ghost use Rattle.std.specs.VecDeque.{deque_len, deque_capacity};
+    ghost use Rattle.early_frames.specs.Held.{Kept};
+    ghost use Rattle.early_frames.specs.Arrivals.{frames_of, Queued};
 
     ghost Value = { Kept };
 
-    ghost view = { λ h. record { frames = h.kept.items; spare = vec_capacity h.kept - vec_len h.kept } };
+    ghost view = { λ h. record { frames = frames_of h.kept.items; spare = min (deque_capacity h.kept - deque_len h.kept) (2 ^ 64 - 1 - h.next) } };
 
-    ghost invariant = { λ h. h.lowest ≡ lowest_from None h.kept.items };
+    ghost invariant = { λ h. Queued h.kept.items h.next };
 }
 
 impl Held {
@@ -32,8 +38,8 @@ impl Held {
         ensures { result.frames ≡ [] }
     {
         Held {
-            kept: Vec::new(alloc),
-            lowest: None,
+            kept: VecDeque::new(alloc),
+            next: 0,
         }
     }
 
@@ -51,24 +57,21 @@ impl Held {
     pub fn waits(&self, from: MemberId, version: u16) -> bool
         ensures { result ≡ waits from version self.now.frames }
     {
-        is_reached(version, &self.lowest) && waits_among(self.kept.as_slice(), from, version)
+        waits_among(&self.kept, from, version)
     }
 
     /// Whether the version of a held frame is at most this one.
     pub fn ready(&self, version: u16) -> bool
         ensures { result ≡ is_some (first_ready version self.now.frames) }
     {
-        is_reached(version, &self.lowest)
+        is_reached(&self.kept, version)
     }
 
     /// The frame that `release` takes.
     pub fn first(&self, version: u16) -> Option<&(MemberId, Frame)>
         ensures { option_copied result ≡ first_ready version self.now.frames }
     {
-        if !is_reached(version, &self.lowest) {
-            return None;
-        }
-        first_among(self.kept.as_slice(), version)
+        first_among(&self.kept, version)
     }
 
     /// Takes the first frame, in the order of arrival, whose version is at most this one; None exactly
@@ -78,12 +81,7 @@ impl Held {
         ensures rest { self.new.frames ≡ without_ready version self.old.frames }
         ensures spare { self.old.spare ≤ self.new.spare }
     {
-        if !is_reached(version, &self.lowest) {
-            return None;
-        }
-        let released = take_first(&mut self.kept, version);
-        self.lowest = lowest_of(self.kept.as_slice());
-        released
+        take_first(&mut self.kept, version)
     }
 
     /// Makes room for one frame more. The frames are as they were, also after want of memory.
@@ -92,6 +90,9 @@ impl Held {
         ensures room { OnOk result (1 ≤ self.new.spare) }
         ensures spare { self.old.spare ≤ self.new.spare }
     {
+        if self.next == u64::MAX {
+            self.next = renumber(&mut self.kept)?;
+        }
         self.kept.reserve(1)?;
         Ok(())
     }
@@ -102,90 +103,41 @@ impl Held {
         ensures frames { self.new.frames ≡ self.old.frames ++ (from, frame) ∷ [] }
         ensures spare { self.old.spare ≤ self.new.spare + 1 }
     {
-        let version = frame.version;
-        self.kept.push_reserved((from, frame));
-        self.lowest = Some(lower(version, &self.lowest));
+        put(&mut self.kept, self.next, (from, frame));
+        self.next += 1;
     }
 }
 
-/// The place of the first frame whose version is reached, or the length.
-fn first_place(kept: &[(MemberId, Frame)], version: u16) -> usize
-    ensures within { result ≤ length kept.now }
-    ensures first { first_ready version kept.now ≡ slice_get kept.now result }
-    ensures rest { without_ready version kept.now ≡ remove kept.now result }
-{
-    let mut at = 0;
-    while at < kept.len() {
-        if kept[at].1.version <= version {
-            return at;
+#[cfg(test)]
+mod tests {
+    use super::*;
+    use std::test::Fail;
+    use upd_base::Body;
+
+    fn frame(version: u16, stamp: u64) -> Frame {
+        Frame {
+            version,
+            body: Body::Ack { stamp },
         }
-        at += 1;
     }
-    at
-}
 
-/// The first frame whose version is reached.
-fn first_among(kept: &[(MemberId, Frame)], version: u16) -> Option<&(MemberId, Frame)>
-    ensures { option_copied result ≡ first_ready version kept.now }
-{
-    kept.get(first_place(kept, version))
-}
-
-/// Takes the first frame whose version is reached.
-fn take_first(kept: &mut Vec<(MemberId, Frame)>, version: u16) -> Option<(MemberId, Frame)>
-    ensures first { result ≡ first_ready version kept.old.items }
-    ensures rest { kept.new.items ≡ without_ready version kept.old.items }
-    ensures spare { vec_capacity kept.old - vec_len kept.old ≤ vec_capacity kept.new - vec_len kept.new }
-{
-    let place = first_place(kept.as_slice(), version);
-    if place < kept.len() {
-        Some(kept.remove(place))
-    } else {
-        None
-    }
-}
-
-/// The lower of a version and a version that may be there.
-fn lower(version: u16, other: &Option<u16>) -> u16
-    ensures { result ≡ lower version other.now }
-{
-    match other {
-        Some(other) if *other < version => *other,
-        _ => version,
-    }
-}
-
-/// Whether there is a version, and it is at most this one.
-fn is_reached(version: u16, lowest: &Option<u16>) -> bool
-    ensures { result ≡ is_reached version lowest.now }
-{
-    match lowest {
-        Some(lowest) => *lowest <= version,
-        None => false,
-    }
-}
-
-/// The lowest version of these frames.
-fn lowest_of(kept: &[(MemberId, Frame)]) -> Option<u16>
-    ensures { result ≡ lowest_from None kept.now }
-{
-    let mut lowest = None;
-    for held in kept {
-        lowest = Some(lower(held.1.version, &lowest));
-    }
-    lowest
-}
-
-/// A frame of this sender and version is among them.
-fn waits_among(kept: &[(MemberId, Frame)], from: MemberId, version: u16) -> bool
-    ensures { result ≡ waits from version kept.now }
-{
-    let mut at = 0;
-    while at < kept.len() {
-        if kept[at].0 == from && kept[at].1.version == version {
-            return true;
+    #[test]
+    fn the_order_outlasts_the_numbers(rt: HostRuntime) -> Result<(), Fail> {
+        let zero = MemberId::new(0).ok_or("no member")?;
+        let one = MemberId::new(1).ok_or("no member")?;
+        let mut held = Held {
+            kept: VecDeque::new(rt.alloc()),
+            next: u64::MAX - 2,
+        };
+        held.keep(zero, frame(3, 1))?;
+        held.keep(one, frame(1, 2))?;
+        held.keep(zero, frame(3, 3))?;
+        held.keep(one, frame(2, 4))?;
+        for stamp in 1..5_u64 {
+            let (_, released) = held.release(3).ok_or("nothing is held")?;
+            assert!(rt; released.body == Body::Ack { stamp });
         }
-        at += 1;
+        assert_eq!(rt; held.release(3), None);
+        Ok(())
     }
-    false
 }

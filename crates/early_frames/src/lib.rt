@@ -1,7 +1,9 @@
 //! Frames that a member holds until it may process them.
 #![tactic(auto)]
 
+mod arrivals;
 mod held;
+mod numbers;
 
 pub use held::Held;
 
