@@ -1,0 +1,5 @@
+pub mod Recorded
+pub mod Offers
+pub mod Pass
+pub mod Group
+pub mod Turns
