@@ -42,6 +42,11 @@ pub adds_entries : (p : Planned) (es es' : List Event) → AddsAtMostOne es es' 
 adds_entries p es es' (inl same) = inl (ap (entries p) same)
 adds_entries p es es' (inr more) = inr (Made more.0, ap (entries p) more.1 ∙ ap (λ z. Began p ∷ z) (map-append Made es (more.0 ∷ [])))
 
+pub adds_noted : (noted : List Recorded) (p q : Planned) (es es' : List Event) → noted ≡ entries p (events_in noted) → AddsAtMostOne (events_in noted) es → q ≡ p → es' ≡ es → AddsAtMostOne noted (entries q es')
+adds_noted noted p q es es' is adds same same' =
+    let now : entries p es ≡ entries q es' = ap (λ z. entries z es) (sym same) ∙ ap (entries q) (sym same') in
+    subst (λ z. AddsAtMostOne noted z) now (subst (λ z. AddsAtMostOne z (entries p es)) (sym is) (adds_entries p (events_in noted) es adds))
+
 -- of two lists of one plan, the longer has the longer list of events
 pub events_longer : (p : Planned) (xs ys : List Recorded) → HasPlan p xs → HasPlan p ys → events_in (longer xs ys) ≡ longer (events_in xs) (events_in ys)
 events_longer p xs ys hx hy =

@@ -21,9 +21,6 @@ new_event_places p q xs ys =
     let n : length (entries q ys) - length (entries p xs) ≡ length ys - length xs = omega arith in
     ap (λ z. event_places (places_from z (length (entries q ys) - length (entries p xs)))) a ∙ (ap (λ z. event_places (places_from (suc (length xs)) z)) n ∙ places_down (length xs) (length ys - length xs))
 
-pub event_places-append : (xs ys : List ℕ) → event_places (xs ++ ys) ≡ event_places xs ++ event_places ys
-event_places-append xs ys = map-append (λ place. place - 1) xs ys
-
 behind_from : (low n : ℕ) → 1 ≤ low → AreBehind (places_from low n)
 behind_from low zero l = tt
 behind_from low (suc n) l = (l, behind_from (suc low) n (omega arith))
@@ -32,10 +29,17 @@ behind_append : (xs ys : List ℕ) → AreBehind xs → AreBehind ys → AreBehi
 behind_append [] ys behind other = other
 behind_append (x ∷ xs) ys behind other = (behind.0, behind_append xs ys behind.1 other)
 
-pub behind_new : (own : List ℕ) (p : Planned) (es : List Event) (list : List Recorded) → AreBehind own → AreBehind (own ++ new_places (entries p es) list)
-behind_new own p es list behind =
-    let a = length-entries p es in
-    behind_append own (new_places (entries p es) list) behind (behind_from (length (entries p es)) (length list - length (entries p es)) (omega arith))
+pub behind_new : (own : List ℕ) (noted list : List Recorded) (p : Planned) (es : List Event) → noted ≡ entries p es → AreBehind own → AreBehind (own ++ new_places noted list)
+behind_new own noted list p es is behind =
+    let a : length noted ≡ suc (length es) = ap length is ∙ length-entries p es in
+    behind_append own (new_places noted list) behind (behind_from (length noted) (length list - length noted) (omega arith))
+
+-- the places of events after a turn
+pub places_after : (own : List ℕ) (noted : List Recorded) (p q : Planned) (es es' : List Event) → noted ≡ entries p (events_in noted) → es' ≡ es
+    → event_places (own ++ new_places noted (entries q es')) ≡ event_places own ++ new_places (events_in noted) es
+places_after own noted p q es es' is same =
+    map-append (λ place. place - 1) own (new_places noted (entries q es'))
+    ∙ ap (λ z. event_places own ++ z) (ap (λ z. event_places (new_places z (entries q es'))) is ∙ (new_event_places p q (events_in noted) es' ∙ ap (new_places (events_in noted)) same))
 
 behind_insert : (p : ℕ) (qs : List ℕ) → 1 ≤ p → AreBehind qs → AreBehind (insert_place p qs)
 behind_insert p [] l behind = (l, tt)

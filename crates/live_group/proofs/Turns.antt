@@ -1,11 +1,13 @@
 -- What a pass knows after a turn in which the journal made one event, or none.
-use Rattle.std.proofs.Common.{◌≡◌, ◌+◌, ◌⊎◌, Bool, true, false, Option, Some, None, Result, Ok, Err, List, [], ◌∷◌, ◌++◌, length, drop, reverse, length-append, refl, sym, ap, ◌∙◌, subst, inl, inr, arith}
+use Rattle.std.proofs.Common.{◌≡◌, ℕ, ◌+◌, ◌⊎◌, Bool, true, false, Option, Some, None, Result, Ok, Err, List, [], ◌∷◌, ◌++◌, length, drop, reverse, length-append, refl, sym, ap, ◌∙◌, subst, inl, inr, arith}
 use Rattle.std.proofs.lemmas.List.{append-nil, length-reverse, reverse-append, reverse-reverse}
-use Rattle.std.specs.Prelude.{IfOk, OnOk, OnErr, IsTrue}
+use Rattle.std.specs.Prelude.{IfOk, IsErr, OnOk, OnErr, IsTrue}
 use Rattle.upd_base.specs.Plan.{Planned}
 use Rattle.upd_base.specs.declared.event.Event.{Event}
+use Rattle.upd_base.specs.declared.answer.Answer.{Answer}
 use Rattle.group_run.specs.Run.{Events}
-use Rattle.run_journal.specs.Causes.{IsMade}
+use Rattle.run_journal.specs.declared.faults.CallFault.{CallFault}
+use Rattle.run_journal.specs.Causes.{IsMade, call_event, next_call}
 use Rattle.turn_lock.specs.declared.kept.Kept.{Ghosts}
 use Rattle.turn_lock.specs.declared.pass.Pass.{Pass}
 use Rattle.turn_lock.specs.Pass.{own, noted}
@@ -13,14 +15,19 @@ use Rattle.turn_lock.specs.Lists.{IsPrefix, AddsAtMostOne}
 use Rattle.turn_lock.specs.Places.{new_places}
 use Rattle.turn_lock.proofs.Lists.{new_places-none, new_places-one}
 use Rattle.live_group.specs.declared.recorded.Recorded.{Recorded}
+use Rattle.live_group.specs.declared.offer.Offer.{Offer}
+use Rattle.live_group.specs.declared.offer.Offer.TheVariants.{Answered, NotNow}
+use Rattle.live_group.specs.Offers.{UnlessAnswered}
 use Rattle.live_group.specs.Recorded.{entries, events_in, event_places}
 use Rattle.live_group.specs.Pass.{events_seen, past_seen, past_before, places}
 use Rattle.live_group.specs.Turns.{MakesOne, MakesNone}
 use Rattle.live_group.proofs.Entries.{events_made}
 
--- what holds of a plan and a past holds of equal ones
-pub at : (P : Planned → Events → Type 0) (plan plan' : Planned) (past past' : Events) → plan ≡ plan' → past ≡ past' → P plan past → P plan' past'
-at P plan plan' past past' same same' holds = subst (λ z. P plan' z) same' (subst (λ z. P z past) same holds)
+-- the event of a call, by equal plans and pasts
+pub same_event : (plan plan' : Planned) (past past' : Events) (thread : ℕ) (a : Answer) → plan ≡ plan' → past' ≡ past
+    → call_event plan past thread (next_call plan past thread) a ≡ call_event plan' past' thread (next_call plan' past' thread) a
+same_event plan plan' past past' thread a same same' =
+    ap (λ p. call_event p past thread (next_call p past thread) a) same ∙ ap (λ p. call_event plan' p thread (next_call plan' p thread) a) (sym same')
 
 -- the list that a turn noted is of the plan that the journal still has
 pub noted_plan : (list : List Recorded) (plan plan' : Planned) (es : List Event) → list ≡ entries plan es → plan' ≡ plan → list ≡ entries plan' (events_in list)
@@ -89,3 +96,22 @@ module _ {T : Type 0} {K : Ghosts T Recorded} (old mid new : Pass T Recorded K) 
         goes_on = subst (λ z. IsPrefix (events_seen old) z) (sym (seen ∙ same_events es es' same)) goes_on;
         places = placed ∙ ((λ j. event_places (mine j) ++ new_places-none (events_in (noted mid)) es' none j) ∙ append-nil (places old));
       }
+
+-- what follows from what was made follows in the same case of an answer
+module _ {X P : Type 0} (then : X → P) where
+  pub on_ok : {A F : Type 0} (r : Result A F) → OnOk r X → OnOk r P
+  on_ok (Ok a) x = then x
+  on_ok (Err f) x = x
+
+  pub on_err : {A F : Type 0} (r : Result A F) → OnErr r X → OnErr r P
+  on_err (Ok a) x = x
+  on_err (Err f) x = then x
+
+  pub if_bool : {F : Type 0} (Q : Bool → Type 0) (r : Result Bool F) → IfOk r (λ b. Q b → X) → IfOk r (λ b. Q b → P)
+  if_bool Q (Ok b) x = λ q. then (x q)
+  if_bool Q (Err f) x = x
+
+pub unless_err : {P : Type 0} (r : Result Offer CallFault) → IsErr r → P → UnlessAnswered r P
+unless_err (Ok (Answered a)) err p = tt
+unless_err (Ok NotNow) err p = p
+unless_err (Err f) err p = p

@@ -1,0 +1,15 @@
+use Rattle.std.proofs.Common.{refl}
+use Rattle.live_group.proofs.Turns.{noted_plan, adds_none, makes_none}
+use Rattle.live_group.proofs.group.LiveGroup.fetch.Goals as goal
+
+pub end_turn-requires-clause-noted : goal.end_turn-requires-clause-noted
+end_turn-requires-clause-noted g c = λ _ _. noted_plan _ _ _ _ c.take_turn-journal.ensures.noted refl
+
+pub end_turn-requires-clause-adds : goal.end_turn-requires-clause-adds
+end_turn-requires-clause-adds g c = λ _ _. adds_none _ _ _ _ c.take_turn-journal.ensures.noted refl
+
+pub returns-clause-unmade : goal.returns-clause-unmade
+returns-clause-unmade g c =
+    let t = c.take_turn-journal.ensures in
+    let e = c.end_turn.ensures in
+    makes_none _ c.take_turn-journal.new.pass _ _ _ _ t.noted t.own t.goes_on e.seen e.places refl
