@@ -1,5 +1,5 @@
 -- What a pass knows after a turn in which the journal made one event, or none.
-use Rattle.std.proofs.Common.{◌≡◌, ℕ, ◌+◌, ◌⊎◌, Bool, true, false, Option, Some, None, Result, Ok, Err, List, [], ◌∷◌, ◌++◌, length, drop, reverse, length-append, refl, sym, ap, ◌∙◌, subst, inl, inr, arith}
+use Rattle.std.proofs.Common.{◌≡◌, ℕ, ◌+◌, ◌⊎◌, Bool, true, false, Option, Some, None, Result, Ok, Err, List, [], ◌∷◌, ◌++◌, length, drop, reverse, length-append, refl, sym, ap, ◌∙◌, append_assoc, subst, inl, inr, arith}
 use Rattle.std.proofs.lemmas.List.{append-nil, length-reverse, reverse-append, reverse-reverse}
 use Rattle.std.specs.Prelude.{IfOk, IsErr, OnOk, OnErr, IsTrue}
 use Rattle.upd_base.specs.Plan.{Planned}
@@ -17,10 +17,10 @@ use Rattle.turn_lock.proofs.Lists.{new_places-none, new_places-one}
 use Rattle.live_group.specs.declared.recorded.Recorded.{Recorded}
 use Rattle.live_group.specs.declared.offer.Offer.{Offer}
 use Rattle.live_group.specs.declared.offer.Offer.TheVariants.{Answered, NotNow}
-use Rattle.live_group.specs.Offers.{UnlessAnswered}
+use Rattle.live_group.specs.Calls.{UnlessAnswered}
 use Rattle.live_group.specs.Recorded.{entries, events_in, event_places}
 use Rattle.live_group.specs.Pass.{events_seen, past_seen, past_before, places}
-use Rattle.live_group.specs.Turns.{MakesOne, MakesNone}
+use Rattle.live_group.specs.Turns.{MakesOne}
 use Rattle.live_group.proofs.Entries.{events_made}
 
 -- the event of a call, by equal plans and pasts
@@ -89,13 +89,32 @@ module _ {T : Type 0} {K : Ghosts T Recorded} (old mid new : Pass T Recorded K) 
             place = placed ∙ ((λ j. event_places (mine j) ++ new_places-one (events_in (noted mid)) es' more j) ∙ ap (λ n. places old ++ n ∷ []) (sym count));
           }
 
-  pub makes_none : reverse es' ≡ reverse es → MakesNone old new
-  makes_none same =
+  pub same_places : reverse es' ≡ reverse es → places new ≡ places old
+  same_places same =
       let none : length es' ≡ length (events_in (noted mid)) = ap length (same_events es es' same ∙ sym (noted_events (noted mid) plan es is)) in
-      record {
-        goes_on = subst (λ z. IsPrefix (events_seen old) z) (sym (seen ∙ same_events es es' same)) goes_on;
-        places = placed ∙ ((λ j. event_places (mine j) ++ new_places-none (events_in (noted mid)) es' none j) ∙ append-nil (places old));
-      }
+      placed ∙ ((λ j. event_places (mine j) ++ new_places-none (events_in (noted mid)) es' none j) ∙ append-nil (places old))
+
+module _ {T : Type 0} {K : Ghosts T Recorded} (old new : Pass T Recorded K) (es es' : List Event) (goes_on : IsPrefix (events_seen old) es) (seen : events_seen new ≡ es') where
+  pub seen_none : reverse es' ≡ reverse es → IsPrefix (events_seen old) (events_seen new)
+  seen_none same = subst (λ z. IsPrefix (events_seen old) z) (sym (seen ∙ same_events es es' same)) goes_on
+
+  pub seen_one : (event : Option Event) → IsMade event (reverse es) (reverse es') → IsPrefix (events_seen old) (events_seen new)
+  seen_one None made = absurd made
+  seen_one (Some e) made =
+      let more : events_seen new ≡ events_seen old ++ (goes_on.0 ++ e ∷ []) =
+            seen ∙ (last_event es es' e made ∙ (ap (λ z. z ++ e ∷ []) goes_on.1 ∙ append_assoc (events_seen old) goes_on.0 (e ∷ []))) in
+      (goes_on.0 ++ e ∷ [], more)
+
+  -- by the journal's answer
+  pub seen_by : {A F : Type 0} (answer : Result A F) (event : A → Option Event) → IfOk answer (λ a. IsMade (event a) (reverse es) (reverse es')) → OnErr answer (reverse es' ≡ reverse es) → IsPrefix (events_seen old) (events_seen new)
+  seen_by (Ok a) event made err = seen_one (event a) made
+  seen_by (Err f) event made err = seen_none err
+
+  pub seen_where : {F : Type 0} (answer : Result Bool F) (e : Event) → IfOk answer (λ b. IsTrue b → reverse es' ≡ e ∷ reverse es) → IfOk answer (λ b. b ≡ false → reverse es' ≡ reverse es) → OnErr answer (reverse es' ≡ reverse es)
+      → IsPrefix (events_seen old) (events_seen new)
+  seen_where (Ok true) e made none err = seen_one (Some e) (made refl)
+  seen_where (Ok false) e made none err = seen_none (none refl)
+  seen_where (Err f) e made none err = seen_none err
 
 -- what follows from what was made follows in the same case of an answer
 module _ {X P : Type 0} (then : X → P) where

@@ -1,4 +1,4 @@
--- What one call does to a pass.
+-- What a call that makes an event does to a pass.
 use Rattle.std.specs.Prelude.{◌≡◌, Option, [], ◌∷◌, ◌++◌, length, reverse}
 use Rattle.upd_base.specs.declared.event.Event.{Event}
 use Rattle.run_journal.specs.Causes.{IsMade}
@@ -14,8 +14,3 @@ pub record MakesOne {T : Type 0} {K : Ghosts T Recorded} (event : Option Event) 
   pub goes_on : IsPrefix (events_seen old) (reverse (past_before new))
   pub made : IsMade event (past_before new) (past_seen new)
   pub place : places new ≡ places old ++ length (past_before new) ∷ []
-
--- No event was made. What the pass has seen goes on from what it had seen, and its places are as they were.
-pub record MakesNone {T : Type 0} {K : Ghosts T Recorded} (old new : Pass T Recorded K) : Type 0 where
-  pub goes_on : IsPrefix (events_seen old) (events_seen new)
-  pub places : places new ≡ places old

@@ -6,14 +6,14 @@ ghost use Rattle.member_rules.specs.Kept.{rules_of};
 ghost use Rattle.group_run.specs.Run.{IsRelease};
 ghost use Rattle.group_run.specs.Settled.{IsSettled};
 ghost use Rattle.run_journal.specs.Journal.{plan_of, events_of, past_of};
-ghost use Rattle.run_journal.specs.Causes.{next_call, answer_next, call_event, would_be_full, open_frame, CallCause, ReceiveCause, ReleaseCause};
+ghost use Rattle.run_journal.specs.Causes.{open_frame, CallCause, ReceiveCause, ReleaseCause};
 ghost use Rattle.turn_lock.specs.declared.pass.TheConstants.{PARTS};
 ghost use Rattle.turn_lock.specs.Lists.{IsPrefix, AddsAtMostOne, longer};
 ghost use Rattle.turn_lock.specs.Places.{merged, new_places};
 ghost use Rattle.turn_lock.specs.Pass.{own, parts, noted, IsTurning};
 ghost use Rattle.turn_lock.specs.TurnLock.{IsPassOf as IsLockPassOf};
 ghost use Rattle.live_group.specs.Recorded.{entries, events_in, AreBehind};
-ghost use Rattle.live_group.specs.Offers.{IfAnswered, OnNotNow, UnlessAnswered};
+ghost use Rattle.live_group.specs.Calls.{IfAnswered, IsNextAnswer, OnNotNow, UnlessAnswered, next_event, would_fill};
 ghost use Rattle.live_group.specs.Pass.{events_seen, past_seen, past_before, places};
 
 use crate::kept_journal::KeptJournal;
@@ -36,7 +36,7 @@ pub type GroupPass<O> = Pass<KeptJournal<O>>;
 
 impl<O: Ordering> LiveGroup<O> {
     ghost use Rattle.live_group.specs.Group.{shared, plan_shared, IsPassOf};
-    ghost use Rattle.live_group.specs.Turns.{MakesOne, MakesNone};
+    ghost use Rattle.live_group.specs.Turns.{MakesOne};
 
     /// Shares a journal. The first pass has seen its events, owns none and has all `PARTS`. For want of memory the journal
     /// comes back.
@@ -69,13 +69,14 @@ impl<O: Ordering> LiveGroup<O> {
         requires thread { thread < length (plan_shared self.now).threads }
         ensures of { IsPassOf self.now pass.new }
         ensures parts { parts pass.new ≡ parts pass.old }
-        ensures made { IfAnswered result (λ a. MakesOne (call_event (plan_shared self.now) (past_before pass.new) thread (next_call (plan_shared self.now) (past_before pass.new) thread) a) pass.old pass.new) }
-        ensures answer { IfAnswered result (λ a. answer_next (rules_of O.Ordering) (plan_shared self.now) (past_before pass.new) (next_call (plan_shared self.now) (past_before pass.new) thread) ≡ Some a) }
+        ensures seen { IsPrefix (events_seen pass.old) (events_seen pass.new) }
+        ensures made { IfAnswered result (λ a. MakesOne (next_event (plan_shared self.now) (past_before pass.new) thread a) pass.old pass.new) }
+        ensures answer { IfAnswered result (IsNextAnswer (rules_of O.Ordering) (plan_shared self.now) (past_before pass.new) thread) }
         ensures never_full { IfAnswered result (λ a. a ≢ Full) }
-        ensures room { IfAnswered result (λ a. length (past_before pass.new) < bound (plan_shared self.now)) }
-        ensures unmade { UnlessAnswered result (MakesNone pass.old pass.new) }
-        ensures not_now { OnNotNow result (would_be_full (answer_next (rules_of O.Ordering) (plan_shared self.now) (past_seen pass.new) (next_call (plan_shared self.now) (past_seen pass.new) thread)) ≡ true) }
-        ensures now { OnErr result (would_be_full (answer_next (rules_of O.Ordering) (plan_shared self.now) (past_seen pass.new) (next_call (plan_shared self.now) (past_seen pass.new) thread)) ≡ false) }
+        ensures room { IfAnswered result (λ _. length (past_before pass.new) < bound (plan_shared self.now)) }
+        ensures unmade { UnlessAnswered result (places pass.new ≡ places pass.old) }
+        ensures not_now { OnNotNow result (would_fill (rules_of O.Ordering) (plan_shared self.now) (past_seen pass.new) thread ≡ true) }
+        ensures not_now_first { OnErr result (would_fill (rules_of O.Ordering) (plan_shared self.now) (past_seen pass.new) thread ≡ false) }
         ensures cause { IfErr result (CallCause (rules_of O.Ordering) (plan_shared self.now) (past_seen pass.new) thread) }
     {
         let mut journal = self.take_turn(rt, pass);
@@ -102,7 +103,8 @@ impl<O: Ordering> LiveGroup<O> {
         requires to_fits { to < (plan_shared self.now).members }
         ensures of { IsPassOf self.now pass.new }
         ensures parts { parts pass.new ≡ parts pass.old }
-        ensures unmade { MakesNone pass.old pass.new }
+        ensures seen { IsPrefix (events_seen pass.old) (events_seen pass.new) }
+        ensures unmade { places pass.new ≡ places pass.old }
         ensures frame { IfOk result (λ f. f ≡ open_frame (rules_of O.Ordering) (plan_shared self.now) (past_seen pass.new) from to) }
     {
         let journal = self.take_turn(rt, pass);
@@ -126,10 +128,11 @@ impl<O: Ordering> LiveGroup<O> {
         requires to_fits { to < (plan_shared self.now).members }
         ensures of { IsPassOf self.now pass.new }
         ensures parts { parts pass.new ≡ parts pass.old }
+        ensures seen { IsPrefix (events_seen pass.old) (events_seen pass.new) }
         ensures made { OnOk result (MakesOne (Some (Receive from to)) pass.old pass.new) }
         ensures same { OnOk result (open_frame (rules_of O.Ordering) (plan_shared self.now) (past_before pass.new) from to ≡ Some got.now) }
         ensures room { OnOk result (length (past_before pass.new) < bound (plan_shared self.now)) }
-        ensures unmade { OnErr result (MakesNone pass.old pass.new) }
+        ensures unmade { OnErr result (places pass.new ≡ places pass.old) }
         ensures cause { IfErr result (ReceiveCause (rules_of O.Ordering) (plan_shared self.now) (past_seen pass.new) from to got.now) }
     {
         let mut journal = self.take_turn(rt, pass);
@@ -150,12 +153,13 @@ impl<O: Ordering> LiveGroup<O> {
         requires at { at < (plan_shared self.now).members }
         ensures of { IsPassOf self.now pass.new }
         ensures parts { parts pass.new ≡ parts pass.old }
+        ensures seen { IsPrefix (events_seen pass.old) (events_seen pass.new) }
         ensures made { IfOk result (λ b. IsTrue b → MakesOne (Some (Release at)) pass.old pass.new) }
         ensures enabled { IfOk result (λ b. IsTrue b → IsRelease (rules_of O.Ordering) (plan_shared self.now) (past_before pass.new) at) }
         ensures room { IfOk result (λ b. IsTrue b → length (past_before pass.new) < bound (plan_shared self.now)) }
-        ensures unmade { IfOk result (λ b. b ≡ false → MakesNone pass.old pass.new) }
+        ensures unmade { IfOk result (λ b. b ≡ false → places pass.new ≡ places pass.old) }
         ensures not_enabled { IfOk result (λ b. b ≡ false → IsRelease (rules_of O.Ordering) (plan_shared self.now) (past_seen pass.new) at → ⊥) }
-        ensures err { OnErr result (MakesNone pass.old pass.new) }
+        ensures err { OnErr result (places pass.new ≡ places pass.old) }
         ensures cause { IfErr result (ReleaseCause (rules_of O.Ordering) (plan_shared self.now) (past_seen pass.new) at) }
     {
         let mut journal = self.take_turn(rt, pass);
@@ -169,7 +173,8 @@ impl<O: Ordering> LiveGroup<O> {
         requires of { IsPassOf self.now pass.old }
         ensures of { IsPassOf self.now pass.new }
         ensures parts { parts pass.new ≡ parts pass.old }
-        ensures unmade { MakesNone pass.old pass.new }
+        ensures seen { IsPrefix (events_seen pass.old) (events_seen pass.new) }
+        ensures unmade { places pass.new ≡ places pass.old }
         ensures value { IsTrue result ↔ IsSettled (rules_of O.Ordering) (plan_shared self.now) (past_seen pass.new) }
     {
         let journal = self.take_turn(rt, pass);
