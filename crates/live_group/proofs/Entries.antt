@@ -57,6 +57,7 @@ events_longer p xs ys hx hy =
   where
     lengths : (zs : List Recorded) → HasPlan p zs → length zs ≡ suc (length (events_in zs))
     lengths zs h = ap length h.1 ∙ (length-entries p h.0 ∙ ap (λ z. suc (length z)) (sym (ap events_in h.1 ∙ events_made h.0)))
+
     by : (b : Bool) → events_in (cond b ys xs) ≡ cond b (events_in ys) (events_in xs)
     by true = refl
     by false = refl

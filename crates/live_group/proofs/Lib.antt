@@ -1,3 +1,4 @@
 pub mod Entries
 pub mod OwnPlaces
 pub mod Turns
+pub mod Standing

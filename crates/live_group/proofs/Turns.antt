@@ -102,7 +102,7 @@ module _ {T : Type 0} {K : Ghosts T Recorded} (old new : Pass T Recorded K) (es 
   seen_one None made = absurd made
   seen_one (Some e) made =
       let more : events_seen new ≡ events_seen old ++ (goes_on.0 ++ e ∷ []) =
-            seen ∙ (last_event es es' e made ∙ (ap (λ z. z ++ e ∷ []) goes_on.1 ∙ append_assoc (events_seen old) goes_on.0 (e ∷ []))) in
+      seen ∙ (last_event es es' e made ∙ (ap (λ z. z ++ e ∷ []) goes_on.1 ∙ append_assoc (events_seen old) goes_on.0 (e ∷ []))) in
       (goes_on.0 ++ e ∷ [], more)
 
   -- by the journal's answer

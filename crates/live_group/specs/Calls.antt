@@ -1,7 +1,8 @@
 -- What a call asks for, and what became of it.
-use Rattle.std.specs.Prelude.{ℕ, Bool, ◌≡◌, Option, Some, Result, Ok, Err}
+use Rattle.std.specs.Prelude.{ℕ, Bool, ◌≡◌, ◌<◌, List, slice_get, Option, Some, Result, Ok, Err}
 use Rattle.upd_base.specs.Plan.{Planned}
 use Rattle.upd_base.specs.declared.event.Event.{Event}
+use Rattle.upd_base.specs.declared.event.Event.TheVariants.{Call as CallEvent}
 use Rattle.upd_base.specs.declared.answer.Answer.{Answer}
 use Rattle.group_run.specs.Group.{Rules}
 use Rattle.group_run.specs.Run.{Events}
@@ -39,3 +40,11 @@ abbrev pub UnlessAnswered : Result Offer CallFault → Type 0 → Type 0
 UnlessAnswered (Ok (Answered answer)) P = Unit {0}
 UnlessAnswered (Ok NotNow) P = P
 UnlessAnswered (Err fault) P = P
+
+-- at this place stands a call of the thread, with this answer
+abbrev pub StandsAt : List Event → ℕ → ℕ → Answer → Type 0
+StandsAt events place thread answer = (index member : ℕ) × (slice_get events place ≡ Some (CallEvent thread index member answer))
+
+-- two calls of the thread stand there, one behind the other, with these answers
+abbrev pub StandInOrder : List Event → ℕ → Answer → Answer → Type 0
+StandInOrder events thread first second = (p q : ℕ) × (p < q) × StandsAt events p thread first × StandsAt events q thread second

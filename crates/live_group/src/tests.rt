@@ -2,7 +2,8 @@
 ghost use Rattle.std.specs.Prelude.{◌≡◌, ◌<◌, length, IfOk, IfSome};
 ghost use Rattle.turn_lock.specs.declared.pass.TheConstants.{PARTS};
 ghost use Rattle.turn_lock.specs.Pass.{parts};
-ghost use Rattle.run_journal.specs.Journal.{plan_of};
+ghost use Rattle.run_journal.specs.Journal.{plan_of, events_of};
+ghost use Rattle.live_group.specs.Calls.{StandInOrder};
 ghost use Rattle.live_group.specs.Group.{plan_shared, IsPassOf};
 
 use super::*;
@@ -103,6 +104,41 @@ fn each_call_once(rt: HostRuntime) -> Result<(), Fail> {
     let journal = group.close(first);
     assert_eq!(rt; journal.len(), 2);
     assert_eq!(rt; journal.made(1), 1);
+    Ok(())
+}
+
+/// A pass that is split off makes two calls, and is joined into the one that closes: they stand in the journal, one behind
+/// the other, with the answers that were told.
+fn two_calls<O: Ordering, R: Wait>(
+    rt: &R,
+    alloc: Global,
+    journal: Journal<O>,
+    thread: u8,
+) -> Option<(Journal<O>, Answer, Answer)>
+    requires { thread < length (plan_of journal).threads }
+    ensures { IfSome result (λ r. StandInOrder (events_of r.0) thread r.1 r.2) }
+{
+    let Ok((group, mut first)) = LiveGroup::share(alloc, journal) else {
+        return None;
+    };
+    let mut second = group.split(&mut first);
+    let Ok(Offer::Answered(one)) = group.call(rt, alloc, &mut second, thread) else {
+        return None;
+    };
+    let Ok(Offer::Answered(two)) = group.call(rt, alloc, &mut second, thread) else {
+        return None;
+    };
+    group.join(&mut first, second);
+    Some((group.close(first), one, two))
+}
+
+#[test]
+fn two_calls_of_one_pass_stand_in_order(rt: HostRuntime) -> Result<(), Fail> {
+    let alloc = rt.alloc();
+    let journal = journal_of::<SequencerOrder>(alloc, 1, 2, true)?;
+    let (closed, one, two) = two_calls(&rt, alloc, journal, 0).ok_or("there is memory")?;
+    assert!(rt; one == Answer::Accepted(0) && two == Answer::Accepted(1));
+    assert_eq!(rt; closed.len(), 2);
     Ok(())
 }
 

@@ -1,10 +1,9 @@
 // Threads that make 1,000 calls in all, and receive while a member is full.
-ghost use Rattle.std.specs.Prelude.{◌≡◌, ◌<◌, ◌≤◌, length};
+ghost use Rattle.std.specs.Prelude.{◌≡◌, ◌+◌, ◌<◌, length};
 ghost use Rattle.turn_lock.specs.Pass.{parts};
 ghost use Rattle.live_group.specs.Group.{plan_shared, IsPassOf};
 
 use super::*;
-
 use std::thread::{Threads, join};
 
 type Group = LiveGroup<SequencerOrder>;
@@ -56,13 +55,7 @@ fn receive_each<R: Wait>(rt: &R, alloc: Global, group: &Group, pass: &mut Leave)
 }
 
 /// Makes all calls of a thread, and receives where its member is full.
-fn make_calls<R: Wait>(
-    rt: &R,
-    alloc: Global,
-    group: &Group,
-    mut pass: Leave,
-    thread: u8,
-) -> Caller
+fn make_calls<R: Wait>(rt: &R, alloc: Global, group: &Group, mut pass: Leave, thread: u8) -> Caller
     requires of { IsPassOf group.now pass }
     requires members { (plan_shared group.now).members ≡ 3 }
     requires thread { thread < length (plan_shared group.now).threads }
@@ -165,6 +158,62 @@ fn two_threads_make_1000_calls(rt: HostRuntime) -> Result<(), Fail> {
     for number in 0..2 {
         let stand = answers_in(alloc, &journal, number)?;
         assert_eq!(rt; stand.len(), 500);
+        assert_eq!(rt; all[number as usize], Some(stand));
+    }
+    Ok(())
+}
+
+type Pair = (Caller, Caller);
+
+fn four_callers<R: Threads + Wait + Sync>(
+    rt: &R,
+    alloc: Global,
+    group: &Group,
+    low: (Leave, Leave),
+    high: (Leave, Leave),
+) -> (Pair, Pair)
+    requires low { IsPassOf group.now low.0 × IsPassOf group.now low.1 }
+    requires high { IsPassOf group.now high.0 × IsPassOf group.now high.1 }
+    requires members { (plan_shared group.now).members ≡ 3 }
+    requires threads { length (plan_shared group.now).threads ≡ 4 }
+    ensures low { IsPassOf group.now result.0.0.pass × IsPassOf group.now result.0.1.pass }
+    ensures high { IsPassOf group.now result.1.0.pass × IsPassOf group.now result.1.1.pass }
+    ensures low_parts { (parts result.0.0.pass ≡ parts low.0) × (parts result.0.1.pass ≡ parts low.1) }
+    ensures high_parts { (parts result.1.0.pass ≡ parts high.0) × (parts result.1.1.pass ≡ parts high.1) }
+{
+    let (a, b) = low;
+    let (c, d) = high;
+    join(
+        rt,
+        move || -> Pair
+            requires { IsPassOf group.now a × IsPassOf group.now b × ((plan_shared group.now).members ≡ 3) × (length (plan_shared group.now).threads ≡ 4) }
+            ensures { IsPassOf group.entry.now result.0.pass × IsPassOf group.entry.now result.1.pass × (parts result.0.pass ≡ parts a) × (parts result.1.pass ≡ parts b) }
+        { two_callers(rt, alloc, group, a, b, 0) },
+        move || -> Pair
+            requires { IsPassOf group.now c × IsPassOf group.now d × ((plan_shared group.now).members ≡ 3) × (length (plan_shared group.now).threads ≡ 4) }
+            ensures { IsPassOf group.entry.now result.0.pass × IsPassOf group.entry.now result.1.pass × (parts result.0.pass ≡ parts c) × (parts result.1.pass ≡ parts d) }
+        { two_callers(rt, alloc, group, c, d, 2) },
+    )
+}
+
+#[test]
+fn four_threads_make_1000_calls(rt: HostRuntime) -> Result<(), Fail> {
+    let alloc = rt.alloc();
+    let (group, mut first) = group_of::<SequencerOrder>(alloc, 4, 250, false)?;
+    let second = group.split(&mut first);
+    let third = group.split(&mut first);
+    let fourth = group.split(&mut first);
+    let (low, high) = four_callers(&rt, alloc, &group, (first, second), (third, fourth));
+    let ((one, two), (three, four)) = (low, high);
+    let Caller { answers, mut pass } = one;
+    group.join(&mut pass, two.pass);
+    group.join(&mut pass, three.pass);
+    group.join(&mut pass, four.pass);
+    let journal = group.close(pass);
+    let all = [answers, two.answers, three.answers, four.answers];
+    for number in 0..4 {
+        let stand = answers_in(alloc, &journal, number)?;
+        assert_eq!(rt; stand.len(), 250);
         assert_eq!(rt; all[number as usize], Some(stand));
     }
     Ok(())
