@@ -1,0 +1,9 @@
+pub mod Joined
+pub mod Digits
+pub mod Fronts
+pub mod Leading
+pub mod Keeping
+pub mod Whole
+pub mod Spelling
+pub mod Stages
+pub mod Replaying
