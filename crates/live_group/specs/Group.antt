@@ -1,5 +1,5 @@
 -- What contracts say of a shared group.
-use Rattle.std.specs.Prelude.{◌≡◌, length}
+use Rattle.std.specs.Prelude.{length}
 use Rattle.order_trait.specs.declared.ordering.Ordering.{Ghosts}
 use Rattle.upd_base.specs.Plan.{Planned}
 use Rattle.run_journal.specs.declared.journal.Journal.{Journal}

@@ -3,5 +3,5 @@ use Rattle.turn_lock.specs.Pass.{parts}
 use Rattle.live_group.specs.Group.{IsPassOf}
 use Rattle.live_group.proofs.tests.threads.make_calls.Given as goal
 
-abbrev pub invariant-loop : goal.invariant-loop-link
+abbrev pub invariant-loop : goal.invariant-loop
 invariant-loop g l = record { of : IsPassOf l.group l.pass; parts : parts l.pass ≡ parts l.initial.pass }
