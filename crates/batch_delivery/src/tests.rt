@@ -1,6 +1,7 @@
 ghost use Rattle.std.specs.Prelude.{◌≡◌, true, IfOk};
 ghost use Rattle.std.specs.List.{list_all};
 ghost use Rattle.upd_base.specs.Item.{ItemFits, item_fits};
+ghost use Rattle.batch_delivery.specs.Delivery.{members_of};
 
 use crate::Delivery;
 use std::alloc::Global;
@@ -34,13 +35,20 @@ fn batch(alloc: Global, number: u32) -> Result<Batch, Fail>
     Ok(batch)
 }
 
+fn empty(alloc: Global) -> Result<Delivery, Fail>
+    ensures { IfOk result (λ d. members_of d ≡ 7) }
+{
+    match Delivery::new(alloc, 7) {
+        Ok(delivery) => Ok(delivery),
+        Err(_) => Err("memory")?,
+    }
+}
+
 #[test]
 fn in_the_order_of_the_instances(rt: HostRuntime) -> Result<(), Fail> {
     let alloc = rt.alloc();
     let mut delivered = Vec::new(alloc);
-    let Ok(mut delivery) = Delivery::new(alloc, 7) else {
-        return Err("memory")?;
-    };
+    let mut delivery = empty(alloc)?;
     assert!(rt; delivery.receive(alloc, item(4)?).is_ok());
     assert_eq!(rt; delivery.next(), Some(1));
     assert!(rt; delivery.decide(2, batch(alloc, 5)?).is_ok());
@@ -52,6 +60,15 @@ fn in_the_order_of_the_instances(rt: HostRuntime) -> Result<(), Fail> {
         return Err("a batch")?;
     };
     assert!(rt; first == batch(alloc, 4)?);
+    Ok(())
+}
+
+#[test]
+fn a_copy_goes_its_own_way(rt: HostRuntime) -> Result<(), Fail> {
+    let alloc = rt.alloc();
+    let mut delivered = Vec::new(alloc);
+    let mut delivery = empty(alloc)?;
+    assert!(rt; delivery.decide(2, batch(alloc, 5)?).is_ok());
     let Ok(mut copy) = delivery.copy(alloc) else {
         return Err("memory")?;
     };
