@@ -1,0 +1,5 @@
+pub mod Received
+pub mod LineState
+pub mod Lines
+pub mod Rest
+pub mod Ends

@@ -1,0 +1,64 @@
+ghost use Rattle.std.specs.Prelude.{ℕ, ◌≡◌, ◌*◌, ◌<◌, List, Option, length, All};
+ghost use Rattle.member_rules.specs.Kept.{rules_of};
+ghost use Rattle.group_run.specs.Run.{Events};
+ghost use Rattle.run_journal.specs.Journal.{plan_of, past_of};
+ghost use Rattle.group_lines.specs.Lines.{AreOnTheWay, AreReady, ComeBack, IsAside, IsEvenLine};
+ghost use Rattle.rehearsal.specs.Ends.{IsOnTheWay};
+ghost use Rattle.group_lines.specs.Rest.{GoesOnFullAtRestBut};
+ghost use Rattle.group_lines.specs.Ends.{EndsRun};
+
+use crate::line_state::LineState;
+use crate::run_end::{Ran, RunEnd};
+use order_trait::Ordering;
+use run_journal::Journal;
+use std::alloc::Global;
+use upd_base::NoMemory;
+use upd_lines::Line;
+
+/// Makes what remains of a run on one thread, by rounds: each thread makes its next call unless that would be answered as full; on each
+/// link, by (from, to), the next frame is received through the link's line; each member makes a release. A line that fails or gives
+/// another byte than was put is used no more. After a round that made no event the lowest thread that has a call makes it.
+///
+/// The lines stand at `from * n + to`, None where there is none; all that was put into them was got.
+pub fn finish<O: Ordering, L: Line>(
+    alloc: Global,
+    journal: Journal<O>,
+    lines: Vec<Option<L>>,
+) -> Ran<O, L>
+    requires places { length lines.items ≡ (plan_of journal).members * (plan_of journal).members }
+    requires even { All (IsEvenLine L.Line) lines.items }
+    ensures plan { plan_of result.journal ≡ plan_of journal }
+    ensures lines { ComeBack L.Line (rules_of O.Ordering) (plan_of journal) (past_of journal) (past_of result.journal) lines.items result.lines.items }
+    ensures end { EndsRun L.Line (rules_of O.Ordering) (plan_of journal) (past_of journal) (past_of result.journal) lines.items result.lines.items result.end }
+    ensures full { GoesOnFullAtRestBut (IsAside L.Line (rules_of O.Ordering) (plan_of journal) (past_of journal) (past_of result.journal) lines.items result.lines.items) (rules_of O.Ordering) (plan_of journal) (past_of journal) (past_of result.journal) }
+{
+    match fresh_states(alloc, lines.as_slice()) {
+        Ok(states) => finish_from(alloc, journal, lines, states),
+        Err(NoMemory) => Ran {
+            journal,
+            lines,
+            end: RunEnd::NoMemory,
+        },
+    }
+}
+
+/// The same where the lines were used before in the call, from whatever start with whatever lines.
+pub fn finish_from<O: Ordering, L: Line>(
+    alloc: Global,
+    journal: Journal<O>,
+    lines: Vec<Option<L>>,
+    states: Vec<LineState>,
+) -> Ran<O, L>
+    requires ready { AreReady L.Line (plan_of journal) (past_of journal) lines.items states.items }
+    ensures plan { plan_of result.journal ≡ plan_of journal }
+    ensures goes_on { IsOnTheWay (past_of journal) (past_of result.journal) }
+    ensures lines { (start : Events) (old : List (Option L)) → IsOnTheWay start (past_of journal) → AreOnTheWay L.Line (rules_of O.Ordering) (plan_of journal) start (past_of journal) old lines.items states.items
+        → ComeBack L.Line (rules_of O.Ordering) (plan_of journal) start (past_of result.journal) old result.lines.items }
+    ensures end { (start : Events) (old : List (Option L)) → IsOnTheWay start (past_of journal) → AreOnTheWay L.Line (rules_of O.Ordering) (plan_of journal) start (past_of journal) old lines.items states.items
+        → EndsRun L.Line (rules_of O.Ordering) (plan_of journal) start (past_of result.journal) old result.lines.items result.end }
+    ensures full { (start : Events) (old : List (Option L)) → IsOnTheWay start (past_of journal) → AreOnTheWay L.Line (rules_of O.Ordering) (plan_of journal) start (past_of journal) old lines.items states.items
+        → GoesOnFullAtRestBut (λ _ _. ⊥) (rules_of O.Ordering) (plan_of journal) start (past_of journal)
+        → GoesOnFullAtRestBut (IsAside L.Line (rules_of O.Ordering) (plan_of journal) start (past_of result.journal) old result.lines.items) (rules_of O.Ordering) (plan_of journal) start (past_of result.journal) }
+{
+    todo
+}
