@@ -4,8 +4,8 @@ use Rattle.fifo_net.specs.Net.{IsPrefix}
 use Rattle.upd_base.specs.Edge.{Rose}
 use Rattle.upd_lines.specs.Line.{Told}
 use Rattle.frame_carriage.specs.Given.{Gave, GaveExactly}
-use Rattle.frame_carriage.specs.declared.carry.CarryFault.{CarryFault}
-use Rattle.frame_carriage.specs.declared.carry.CarryFault.TheVariants.{Down, Lied, NoMemory}
+use Rattle.frame_carriage.specs.declared.carriage.CarryFault.{CarryFault}
+use Rattle.frame_carriage.specs.declared.carriage.CarryFault.TheVariants.{Down, Lied, NoMemory}
 
 -- it gave the beginning of these bytes
 abbrev pub GaveFront : Told → Told → List ℕ → Type 0

@@ -1,11 +1,9 @@
 //! One frame over one line: it is put in pieces, each is got back and compared, and what came is read as a frame.
 #![tactic(auto)]
 
-mod carry;
+mod carriage;
 mod limits;
 
-pub use carry::{Came, CarryFault, MAX_FRAME, PIECE, carry};
+pub use carriage::{Came, CarryFault, MAX_FRAME, PIECE, carry};
 pub use limits::keeps_limits;
 
-#[cfg(test)]
-mod tests;

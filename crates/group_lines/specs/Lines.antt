@@ -8,7 +8,7 @@ use Rattle.upd_lines.specs.declared.line.Line.{Ghosts}
 use Rattle.group_run.specs.Group.{Rules}
 use Rattle.group_run.specs.Run.{Events, crashed_in, next_frame}
 use Rattle.group_run.specs.Settled.{IsSettled}
-use Rattle.frame_carriage.specs.declared.carry.TheConstants.{MAX_FRAME}
+use Rattle.frame_carriage.specs.declared.carriage.TheConstants.{MAX_FRAME}
 use Rattle.frame_carriage.specs.Given.{GaveBytes, IsEven}
 use Rattle.group_lines.specs.Received.{carried, listed, next_bytes, received_since}
 use Rattle.group_lines.specs.LineState.{HasCome}

@@ -2,14 +2,14 @@
 //! thread through them.
 #![tactic(auto)]
 
-mod bring;
+mod bringing;
 mod ending;
-mod finish;
+mod finishing;
 mod line_state;
 mod run_end;
 mod visits;
 
-pub use bring::bring;
-pub use finish::{finish, finish_from};
+pub use bringing::bring;
+pub use finishing::{finish, finish_from};
 pub use line_state::{Lie, LineState};
 pub use run_end::{Ran, RunEnd};

@@ -9,7 +9,7 @@ ghost use Rattle.run_journal.specs.Causes.{answer_next, call_event, next_call, w
 ghost use Rattle.group_lines.specs.Lines.{AreOnTheWay, state_at};
 ghost use Rattle.group_lines.specs.Visits.{GoesOn, IsIdle, StaysAside, AreWhole, IsLeft, GoesOnNotFull};
 
-use crate::bring::bring;
+use crate::bringing::bring;
 use crate::line_state::LineState;
 use frame_carriage::keeps_limits;
 use order_trait::Ordering;

@@ -2,7 +2,7 @@ ghost use Rattle.std.specs.Prelude.{ℕ, ◌≡◌, ◌+◌, ◌^◌, ◌<◌, �
 ghost use Rattle.upd_base.specs.declared.frame.Frame.{Frame};
 ghost use Rattle.upd_lines.specs.Line.{Told};
 ghost use Rattle.upd_frame.specs.Spelling.{IsFrame};
-ghost use Rattle.frame_carriage.specs.declared.carry.TheConstants.{MAX_FRAME};
+ghost use Rattle.frame_carriage.specs.declared.carriage.TheConstants.{MAX_FRAME};
 ghost use Rattle.frame_carriage.specs.Given.{IsEven};
 ghost use Rattle.group_lines.specs.LineState.{IsAt, IsInService, IsSetAside, IsServing};
 ghost use Rattle.group_lines.specs.declared.line_state.LineState.TheVariants.{Serving, Stopped};
