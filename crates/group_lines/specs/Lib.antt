@@ -1,5 +1,1 @@
-pub mod Received
-pub mod LineState
-pub mod Lines
-pub mod Rest
-pub mod Ends
+pub mod Visits

@@ -2,12 +2,12 @@ ghost use Rattle.std.specs.Prelude.{ℕ, ◌≡◌, ◌+◌, ◌^◌, ◌<◌, �
 ghost use Rattle.upd_base.specs.declared.frame.Frame.{Frame};
 ghost use Rattle.upd_lines.specs.Line.{Told};
 ghost use Rattle.upd_frame.specs.Spelling.{IsFrame};
-ghost use Rattle.frame_carriage.specs.declared.carriage.TheConstants.{MAX_FRAME};
-ghost use Rattle.frame_carriage.specs.Given.{IsEven};
-ghost use Rattle.group_lines.specs.LineState.{IsAt, IsInService, IsSetAside, IsServing};
-ghost use Rattle.group_lines.specs.declared.line_state.LineState.TheVariants.{Serving, Stopped};
+ghost use Rattle.line_rules.specs.declared.line_state.TheConstants.{MAX_FRAME};
+ghost use Rattle.line_rules.specs.Given.{IsEven};
+ghost use Rattle.line_rules.specs.LineState.{IsAt, IsInService, IsSetAside, IsServing};
+ghost use Rattle.line_rules.specs.declared.line_state.LineState.TheVariants.{Serving, Stopped};
 
-use crate::line_state::{Lie, LineState};
+use line_rules::{Lie, LineState};
 use frame_carriage::{CarryFault, carry};
 use std::alloc::Global;
 use upd_base::{Frame, NoMemory};

@@ -3,13 +3,10 @@
 #![tactic(auto)]
 
 mod bringing;
-mod ending;
 mod finishing;
-mod line_state;
-mod run_end;
+mod ran;
 mod visits;
 
 pub use bringing::bring;
 pub use finishing::{finish, finish_from};
-pub use line_state::{Lie, LineState};
-pub use run_end::{Ran, RunEnd};
+pub use ran::Ran;

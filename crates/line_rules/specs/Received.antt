@@ -1,5 +1,5 @@
 -- What the events of a run received on a link, and the bytes of it.
-use Rattle.std.specs.Prelude.{ℕ, ◌&&◌, ◌==◌, ◌-◌, ◌++◌, if◌then◌else◌, List, [], ◌∷◌, take, length, Option, Some, None}
+use Rattle.std.specs.Prelude.{ℕ, ◌≡◌, ◌&&◌, ◌==◌, ◌-◌, ◌++◌, if◌then◌else◌, List, [], ◌∷◌, take, length, Option, Some, None}
 use Rattle.std.specs.List.{flat_map}
 use Rattle.upd_base.specs.Plan.{Planned}
 use Rattle.upd_base.specs.declared.frame.Frame.{Frame}
@@ -23,6 +23,10 @@ taken_by rules plan past (Release at) from to = []
 abbrev pub received : Rules → Planned → Events → Events → ℕ → ℕ → List Frame
 received rules plan start [] from to = []
 received rules plan start (event ∷ newer) from to = received rules plan start newer from to ++ taken_by rules plan (newer ++ start) event from to
+
+-- a run goes on from a start
+abbrev pub GoesOn : Events → Events → Type 0
+GoesOn start past = (newer : Events) × (past ≡ newer ++ start)
 
 -- the events past a start
 abbrev pub newer_than : Events → Events → Events

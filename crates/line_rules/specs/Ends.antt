@@ -1,17 +1,17 @@
 -- How a run over lines ends.
-use Rattle.std.specs.Prelude.{ℕ, ◌≡◌, ◌<◌, length, List, Option, Some, None}
+use Rattle.std.specs.Prelude.{ℕ, ◌≡◌, ◌<◌, length, List, Option, Some}
 use Rattle.upd_base.specs.Plan.{Planned, bound}
 use Rattle.upd_lines.specs.declared.line.Line.{Ghosts}
 use Rattle.group_run.specs.Group.{Rules}
 use Rattle.group_run.specs.Run.{Events}
 use Rattle.group_run.specs.Settled.{IsSettled}
-use Rattle.group_lines.specs.Received.{carried, next_bytes}
-use Rattle.group_lines.specs.LineState.{IsLie}
-use Rattle.group_lines.specs.Lines.{IsAside, IsDown, line_at}
-use Rattle.group_lines.specs.Rest.{IsHeldUp}
-use Rattle.group_lines.specs.declared.line_state.Lie.{Lie}
-use Rattle.group_lines.specs.declared.run_end.RunEnd.{RunEnd}
-use Rattle.group_lines.specs.declared.run_end.RunEnd.TheVariants.{Settled, Spent, Lied, Down, NoMemory}
+use Rattle.line_rules.specs.Received.{carried, next_bytes}
+use Rattle.line_rules.specs.LineState.{IsLie}
+use Rattle.line_rules.specs.Lines.{IsAside, IsDown, line_at}
+use Rattle.line_rules.specs.Rest.{IsHeldUp}
+use Rattle.line_rules.specs.declared.line_state.Lie.{Lie}
+use Rattle.line_rules.specs.declared.run_end.RunEnd.{RunEnd}
+use Rattle.line_rules.specs.declared.run_end.RunEnd.TheVariants.{Settled, Spent, Lied, Down, NoMemory}
 
 -- The run is neither settled nor as long as its plan's bound.
 pub record IsLeftOff (rules : Rules) (plan : Planned) (past : Events) : Type 0 where

@@ -1,7 +1,4 @@
-use order_trait::Ordering;
-use run_journal::Journal;
 use upd_base::MemberId;
-use upd_lines::Line;
 
 /// How a run over lines ended.
 #[derive(Clone, Copy, Debug, PartialEq, Eq)]
@@ -20,15 +17,10 @@ pub enum RunEnd {
         got: u8,
     },
     /// The line of this link, the lowest that was found so, has failed or is not there.
-    Down { from: MemberId, to: MemberId },
+    Down {
+        from: MemberId,
+        to: MemberId,
+    },
     /// A request for memory was refused.
     NoMemory,
-}
-
-/// A run over lines: its journal, the lines at their places, and how it ended.
-#[derive(Drop)]
-pub struct Ran<O: Ordering, L: Line> {
-    pub journal: Journal<O>,
-    pub lines: Vec<Option<L>>,
-    pub end: RunEnd,
 }

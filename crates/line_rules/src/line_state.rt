@@ -1,3 +1,6 @@
+/// How many bytes a frame has at most: an estimate of 32 messages of 256 bytes.
+pub const MAX_FRAME: usize = 8_476;
+
 /// A lie of a line: at this place of the bytes that it gave in the call, counted from 0, another byte came than was put.
 #[derive(Clone, Copy, Debug, PartialEq, Eq)]
 pub struct Lie {

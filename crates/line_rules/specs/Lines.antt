@@ -8,12 +8,12 @@ use Rattle.upd_lines.specs.declared.line.Line.{Ghosts}
 use Rattle.group_run.specs.Group.{Rules}
 use Rattle.group_run.specs.Run.{Events, crashed_in, next_frame}
 use Rattle.group_run.specs.Settled.{IsSettled}
-use Rattle.frame_carriage.specs.declared.carriage.TheConstants.{MAX_FRAME}
-use Rattle.frame_carriage.specs.Given.{GaveBytes, IsEven}
-use Rattle.group_lines.specs.Received.{carried, listed, next_bytes, received_since}
-use Rattle.group_lines.specs.LineState.{HasCome}
-use Rattle.group_lines.specs.declared.line_state.LineState.{LineState}
-use Rattle.group_lines.specs.declared.line_state.LineState.TheVariants.{Missing, Serving, Down, Lied, Stopped}
+use Rattle.line_rules.specs.declared.line_state.TheConstants.{MAX_FRAME}
+use Rattle.line_rules.specs.Given.{GaveBytes, IsEven}
+use Rattle.line_rules.specs.Received.{carried, listed, next_bytes, received_since}
+use Rattle.line_rules.specs.LineState.{HasCome}
+use Rattle.line_rules.specs.declared.line_state.LineState.{LineState}
+use Rattle.line_rules.specs.declared.line_state.LineState.TheVariants.{Missing, Serving, Down, Lied, Stopped}
 
 -- the line of a link, which stands at from*n + to, where there is one
 abbrev pub line_at : {L : Type 0} → ℕ → List (Option L) → ℕ → ℕ → Option L
@@ -61,7 +61,7 @@ pub record ComeBack {L : Type 0} (G : Ghosts L) (rules : Rules) (plan : Planned)
 pub record AreOnTheWay {L : Type 0} (G : Ghosts L) (rules : Rules) (plan : Planned) (start past : Events) (old new : List (Option L)) (states : List LineState) : Type 0 where
   pub places : length old ≡ plan.members * plan.members
   pub same : length new ≡ length old
-  pub states : length states ≡ length old
+  pub stated : length states ≡ length old
   pub each : (from to : ℕ) → from < plan.members → to < plan.members
       → HasCome G (received_since rules plan start past from to) (listed (next_frame rules plan past from to)) (line_at plan.members old from to) (line_at plan.members new from to) (state_at plan.members states from to)
 
@@ -78,7 +78,7 @@ IsReadyAt G plan past (Some line) Stopped = length past ≡ bound plan
 
 pub record AreReady {L : Type 0} (G : Ghosts L) (plan : Planned) (past : Events) (lines : List (Option L)) (states : List LineState) : Type 0 where
   pub places : length lines ≡ plan.members * plan.members
-  pub states : length states ≡ length lines
+  pub stated : length states ≡ length lines
   pub each : (from to : ℕ) → from < plan.members → to < plan.members → IsReadyAt G plan past (line_at plan.members lines from to) (state_at plan.members states from to)
 
 -- A line is aside where there is none, where it failed in this call, or where it lied.

@@ -5,11 +5,11 @@ use Rattle.upd_base.specs.Edge.{Rose}
 use Rattle.upd_base.specs.declared.frame.Frame.{Frame}
 use Rattle.upd_lines.specs.Line.{Told}
 use Rattle.upd_lines.specs.declared.line.Line.{Ghosts}
-use Rattle.frame_carriage.specs.Given.{Gave, GaveBytes, GaveExactly, IsEven}
-use Rattle.group_lines.specs.Received.{bytes_of}
-use Rattle.group_lines.specs.declared.line_state.Lie.{Lie}
-use Rattle.group_lines.specs.declared.line_state.LineState.{LineState}
-use Rattle.group_lines.specs.declared.line_state.LineState.TheVariants.{Missing, Serving, Down, Lied, Stopped}
+use Rattle.line_rules.specs.Given.{Gave, GaveBytes, GaveExactly, IsEven}
+use Rattle.line_rules.specs.Received.{bytes_of}
+use Rattle.line_rules.specs.declared.line_state.Lie.{Lie}
+use Rattle.line_rules.specs.declared.line_state.LineState.{LineState}
+use Rattle.line_rules.specs.declared.line_state.LineState.TheVariants.{Missing, Serving, Down, Lied, Stopped}
 
 -- What is told of a lie: the place among the bytes that the line gave since the start, which is not among those of the frames
 -- received; the byte that was put there, and the one that came.
