@@ -1,4 +1,8 @@
-ghost use Rattle.std.specs.Prelude.{◌≡◌, ◌≤◌, ◌<◌, ◌++◌, [], IfOk, IfSome, OnOk, OnErr, drop, length, vec_len};
+ghost use Rattle.std.specs.Prelude.{◌≡◌, ◌≤◌, ◌<◌, ◌++◌, [], Err, IfOk, IfSome, IsTrue, OnOk, OnErr, drop, length, vec_len};
+ghost use Rattle.std.specs.List.{list_all};
+ghost use Rattle.upd_base.specs.Text.{is_printable};
+ghost use Rattle.upd_frame.specs.Reading.{front};
+ghost use Rattle.upd_frame.specs.declared.fault.FrameFault.TheVariants.{Short};
 ghost use Rattle.upd_frame.specs.Spelling.{spelling, IsFrame};
 ghost use Rattle.frame_feed.specs.Stream.{IsNext};
 
@@ -16,8 +20,8 @@ pub struct Feed {
     bytes: Vec<u8>,
     /// How many of the bytes are taken.
     taken: usize,
-    /// How many bytes behind those are read.
-    at: usize,
+    /// How many of the bytes are taken or read.
+    read: usize,
     /// How far the reading of the next frame has come there.
     stage: Stage,
 }
@@ -30,7 +34,7 @@ impl Model for Feed {
 
     ghost view = { λ f. drop f.taken f.bytes.items };
 
-    ghost invariant = { λ f. IsFed f.bytes.items f.taken f.at f.stage };
+    ghost invariant = { λ f. IsFed f.bytes.items f.taken f.read f.stage };
 }
 
 /// Moves the bytes behind the first so many to the front.
@@ -43,6 +47,21 @@ fn drop_front(bytes: &mut Vec<u8>, count: usize)
     bytes.truncate(left);
 }
 
+fn is_printable(byte: u8) -> bool
+    ensures { result ≡ is_printable byte }
+{
+    0x20 <= byte && byte <= 0x7e
+}
+
+fn all_printable(bytes: &[u8]) -> bool
+    ensures { result ≡ list_all is_printable bytes.now }
+{
+    match bytes {
+        [byte] => is_printable(*byte),
+        _ => bytes.iter().all(|byte| is_printable(*byte)),
+    }
+}
+
 impl Feed {
     /// A stream of which nothing has come.
     pub fn new(alloc: Global) -> Feed
@@ -51,7 +70,7 @@ impl Feed {
         Feed {
             bytes: Vec::new(alloc),
             taken: 0,
-            at: 0,
+            read: 0,
             stage: Stage::Start,
         }
     }
@@ -61,12 +80,44 @@ impl Feed {
         ensures ok { OnOk result (self.new ≡ self.old ++ piece.now) }
         ensures err { OnErr result (self.new ≡ self.old) }
     {
+        match piece {
+            // Quicker than a copy of one byte.
+            [byte] => self.bytes.push(*byte)?,
+            _ => self.bytes.extend_from_slice(piece)?,
+        }
+        Ok(())
+    }
+
+    /// Takes so many bytes, those of the frame that was read.
+    fn take(&mut self, size: usize)
+        requires { size ≤ length self.old }
+        ensures { self.new ≡ drop size self.old }
+    {
+        self.taken += size;
         if self.taken >= FEW && self.taken >= self.bytes.len() / 2 {
             drop_front(&mut self.bytes, self.taken);
             self.taken = 0;
         }
-        self.bytes.extend_from_slice(piece)?;
-        Ok(())
+        self.read = self.taken;
+        self.stage = Stage::Start;
+    }
+
+    /// Whether all that is left unread is text of a payload that goes on behind it. It is then read.
+    fn is_amid_text(&mut self) -> bool
+        ensures unchanged { self.new ≡ self.old }
+        ensures short { IsTrue result → front self.old ≡ Err Short }
+    {
+        let Stage::Within { size, .. } = &mut self.stage else {
+            return false;
+        };
+        let unread = &self.bytes[self.read..];
+        let came = unread.len();
+        if came >= *size || !all_printable(unread) {
+            return false;
+        }
+        *size -= came;
+        self.read += came;
+        true
     }
 
     /// The next frame. None exactly where the bytes that are left are cut short; `Short` and `LongTail` never come. A
@@ -75,10 +126,13 @@ impl Feed {
         ensures next { IsNext result self.old self.new }
         ensures spelt { IfOk result (λ found. IfSome found (λ f. IsFrame f × (self.old ≡ spelling f ++ self.new))) }
     {
-        let mut at = self.at;
+        if self.is_amid_text() {
+            return Ok(None);
+        }
+        let mut at = self.read - self.taken;
         let mut stage = self.stage;
         let read = read_on(&self.bytes[self.taken..], &mut at, &mut stage);
-        self.at = at;
+        self.read = self.taken + at;
         self.stage = stage;
         match read {
             Ok(()) => self.take_frame(alloc),
@@ -94,9 +148,7 @@ impl Feed {
     {
         match decode_front(alloc, &self.bytes[self.taken..]) {
             Ok((frame, size)) => {
-                self.taken += size;
-                self.at = 0;
-                self.stage = Stage::Start;
+                self.take(size);
                 Ok(Some(frame))
             }
             Err(FrameFault::Short) => Ok(None),
