@@ -2,4 +2,5 @@ pub mod Read
 pub mod Seeds
 pub mod Serves
 pub mod Rehearsals
-pub mod Plain
+pub mod Scenarios
+pub mod Checks

@@ -1,7 +1,6 @@
 -- What a status says of the source, the sink and the journal.
-use Rattle.std.specs.Prelude.{ℕ, ◌≡◌, ◌≢◌, ◌⊎◌, List, Option, None, Result, Ok, Err, ⊤, IfSome}
+use Rattle.std.specs.Prelude.{ℕ, ◌≡◌, ◌≢◌, ◌⊎◌, List, Option, Some, None, Result, Ok, Err, ⊤, IfSome}
 use Rattle.upd_base.specs.declared.edge.EdgeFault.{EdgeFault}
-use Rattle.upd_base.specs.declared.edge.EdgeFault.TheVariants.{Failed, NoMemory}
 use Rattle.std.specs.Io.KnownBytes.{Appends, IsAtEnd, Keeps}
 use Rattle.upd_base.specs.Edge.{Rose}
 use Rattle.upd_io.specs.Whole.{AppendsPrefix, AppendsLess}
@@ -12,7 +11,12 @@ use Rattle.scenario.specs.declared.fault.ScenarioFault.TheVariants as faults
 use Rattle.group_run.specs.Run.{Events}
 use Rattle.rehearsal.specs.declared.rehearsed.RehearsalEnd.{RehearsalEnd}
 use Rattle.rehearsal.specs.declared.rehearsed.RehearsalEnd.TheVariants as ends
-use Rattle.updatectl.specs.Recorded.{CameTo}
+use Rattle.journal_file.specs.Reading.{HasWrongEvent, ReadFault}
+use Rattle.updatectl.specs.Recorded.{CameTo, the_rules}
+use Rattle.updatectl.specs.Checked.{IsOfText, unwritten}
+use Rattle.updatectl.specs.declared.words.Command.{Command}
+use Rattle.updatectl.specs.declared.words.Command.TheVariants as commands
+use Rattle.updatectl.specs.declared.words.Rehearse.{Rehearse}
 use Rattle.updatectl.specs.Texts.{run_text}
 use Rattle.updatectl.specs.declared.words.Form.{Form}
 use Rattle.updatectl.specs.declared.run_end.End.{End}
@@ -37,6 +41,8 @@ abbrev pub IsRefusal : Status → Type 0
 IsRefusal statuses.Words = Unit {0}
 IsRefusal statuses.SourceFailed = Unit {0}
 IsRefusal (statuses.Scenario fault) = Unit {0}
+IsRefusal (statuses.NotARun place) = Unit {0}
+IsRefusal (statuses.JournalRefused fault) = Unit {0}
 IsRefusal statuses.Done = ⊥
 IsRefusal statuses.SinkFailed = ⊥
 IsRefusal statuses.TurnsSpent = ⊥
@@ -50,19 +56,24 @@ status_at Spent = statuses.TurnsSpent
 -- the status of a run that came to this end, by how the writing of its text went
 abbrev pub status_of : End → Result ⊤ EdgeFault → Status
 status_of end (Ok x) = status_at end
-status_of end (Err Failed) = statuses.SinkFailed
-status_of end (Err NoMemory) = statuses.NoMemory
+status_of end (Err fault) = unwritten fault
+
+-- Why no plan was read of a source.
+abbrev pub ScenarioCause : Status → ℕ → ℕ → Option (List ℕ) → Type 0
+ScenarioCause statuses.SourceFailed before now old = Rose before now
+ScenarioCause (statuses.Scenario fault) before now old = (fault ≢ faults.NoMemory) × IfSome old (λ all. reading all ≡ Err fault)
+ScenarioCause statuses.NoMemory before now old = Unit {0}
+ScenarioCause statuses.Words before now old = ⊥
+ScenarioCause statuses.Done before now old = ⊥
+ScenarioCause statuses.SinkFailed before now old = ⊥
+ScenarioCause statuses.TurnsSpent before now old = ⊥
+ScenarioCause (statuses.NotARun place) before now old = ⊥
+ScenarioCause (statuses.JournalRefused fault) before now old = ⊥
 
 -- What was read of a source: its plan, or why there is none.
 abbrev pub PlanFrom : Result Planned Status → ℕ → ℕ → Option (List ℕ) → Option (List ℕ) → Type 0
 PlanFrom (Ok plan) before now old new = IfSome old (λ all. reading all ≡ Ok plan) × IsAtEnd new
-PlanFrom (Err statuses.SourceFailed) before now old new = Rose before now
-PlanFrom (Err (statuses.Scenario fault)) before now old new = (fault ≢ faults.NoMemory) × IfSome old (λ all. reading all ≡ Err fault)
-PlanFrom (Err statuses.NoMemory) before now old new = Unit {0}
-PlanFrom (Err statuses.Words) before now old new = ⊥
-PlanFrom (Err statuses.Done) before now old new = ⊥
-PlanFrom (Err statuses.SinkFailed) before now old new = ⊥
-PlanFrom (Err statuses.TurnsSpent) before now old new = ⊥
+PlanFrom (Err status) before now old new = ScenarioCause status before now old
 
 -- Runs ----------------------------------------------------------------------------------------------------------
 
@@ -76,6 +87,8 @@ WroteRun statuses.NoMemory form plan past old new = Keeps old new ⊎ ((end : En
 WroteRun statuses.Words form plan past old new = ⊥
 WroteRun statuses.SourceFailed form plan past old new = ⊥
 WroteRun (statuses.Scenario fault) form plan past old new = ⊥
+WroteRun (statuses.NotARun place) form plan past old new = ⊥
+WroteRun (statuses.JournalRefused fault) form plan past old new = ⊥
 
 -- what is known of a run where its schedule ended so
 abbrev pub CameBy : RehearsalEnd → Planned → Events → Type 0
@@ -100,11 +113,30 @@ refused faults.NotJson = statuses.Scenario faults.NotJson
 refused (faults.At path reason) = statuses.Scenario (faults.At path reason)
 refused faults.NoMemory = statuses.NoMemory
 
--- Why a refusal's text was to be written.
-abbrev pub RefusalCause : {C : Type 0} → Status → Option C → ℕ → ℕ → Option (List ℕ) → Type 0
+-- the statuses of a scenario that is read and run
+abbrev pub IsOfScenario : Status → Type 0
+IsOfScenario statuses.Done = Unit {0}
+IsOfScenario statuses.SourceFailed = Unit {0}
+IsOfScenario statuses.SinkFailed = Unit {0}
+IsOfScenario (statuses.Scenario fault) = Unit {0}
+IsOfScenario statuses.TurnsSpent = Unit {0}
+IsOfScenario statuses.NoMemory = Unit {0}
+IsOfScenario statuses.Words = ⊥
+IsOfScenario (statuses.NotARun place) = ⊥
+IsOfScenario (statuses.JournalRefused fault) = ⊥
+
+-- Commands ------------------------------------------------------------------------------------------------------
+
+abbrev pub IsRehearse : Option Command → Type 0
+IsRehearse asked = (words : Rehearse) × (asked ≡ Some (commands.Rehearse words))
+
+-- Why a refusal's text was to be written, where this was asked.
+abbrev pub RefusalCause : Status → Option Command → ℕ → ℕ → Option (List ℕ) → Type 0
 RefusalCause statuses.Words asked before now old = asked ≡ None
 RefusalCause statuses.SourceFailed asked before now old = Rose before now
-RefusalCause (statuses.Scenario fault) asked before now old = IfSome old (λ all. reading all ≡ Err fault)
+RefusalCause (statuses.Scenario fault) asked before now old = IsRehearse asked × IfSome old (λ all. reading all ≡ Err fault)
+RefusalCause (statuses.NotARun place) asked before now old = (asked ≡ Some commands.Check) × IfSome old (λ all. HasWrongEvent the_rules all place)
+RefusalCause (statuses.JournalRefused fault) asked before now old = (asked ≡ Some commands.Check) × IsOfText fault × IfSome old (λ all. ReadFault the_rules all fault)
 RefusalCause statuses.Done asked before now old = ⊥
 RefusalCause statuses.SinkFailed asked before now old = ⊥
 RefusalCause statuses.TurnsSpent asked before now old = ⊥

@@ -1,5 +1,6 @@
 pub mod Words
 pub mod Recorded
 pub mod Texts
+pub mod Checked
 pub mod Causes
 pub mod Rehearsal

@@ -42,6 +42,8 @@ FollowsSchedule statuses.NoMemory plan past whole = IsOnTheWay past whole
 FollowsSchedule statuses.Words plan past whole = ⊥
 FollowsSchedule statuses.SourceFailed plan past whole = ⊥
 FollowsSchedule (statuses.Scenario fault) plan past whole = ⊥
+FollowsSchedule (statuses.NotARun place) plan past whole = ⊥
+FollowsSchedule (statuses.JournalRefused fault) plan past whole = ⊥
 
 -- What is true of the events of a journal that came with this status.
 pub record IsRehearsalOf (seed : Option ℕ) (status : Status) (plan : Planned) (past : Events) : Type 0 where

@@ -1,9 +1,12 @@
 -- The texts that the sink gets.
-use Rattle.std.specs.Prelude.{ℕ, Bool, true, false, List, [], ◌++◌, codes}
+use Rattle.std.specs.Prelude.{ℕ, true, false, List, [], ◌++◌, codes, decimal, reverse}
 use Rattle.scenario.specs.declared.fault.ScenarioFault.{ScenarioFault}
 use Rattle.scenario.specs.declared.fault.ScenarioFault.TheVariants as faults
 use Rattle.scenario.specs.declared.fault.Reason.{Reason}
 use Rattle.scenario.specs.declared.fault.Reason.TheVariants as reasons
+use Rattle.journal_file.specs.Text.{journal_text}
+use Rattle.journal_file.specs.declared.fault.JournalFault.{JournalFault}
+use Rattle.journal_file.specs.declared.fault.JournalFault.TheVariants as journal_faults
 use Rattle.run_report.specs.Report.{report}
 use Rattle.upd_base.specs.Plan.{Planned}
 use Rattle.group_run.specs.Run.{Events}
@@ -11,7 +14,7 @@ use Rattle.updatectl.specs.Recorded.{the_rules}
 use Rattle.updatectl.specs.declared.outcome.Status.{Status}
 use Rattle.updatectl.specs.declared.outcome.Status.TheVariants as statuses
 use Rattle.updatectl.specs.declared.words.Form.{Form}
-use Rattle.updatectl.specs.declared.words.Form.TheVariants.{Long, Short}
+use Rattle.updatectl.specs.declared.words.Form.TheVariants.{Long, Short, Journal}
 use Rattle.updatectl.specs.declared.run_end.End.{End}
 use Rattle.updatectl.specs.declared.run_end.End.TheVariants.{Settled, Spent}
 
@@ -33,6 +36,13 @@ fault_text faults.NotJson = codes "scenario refused: not JSON\n"
 fault_text (faults.At path reason) = codes "scenario refused at " ++ path ++ codes ": " ++ reason_text reason ++ codes "\n"
 fault_text faults.NoMemory = []
 
+-- why a text is no journal's
+unfoldable pub journal_fault_text : JournalFault → List ℕ
+journal_fault_text journal_faults.TooLong = codes "journal refused: too long\n"
+journal_fault_text (journal_faults.Line number) = codes "journal refused: line " ++ decimal number ++ codes "\n"
+journal_fault_text (journal_faults.Event place) = []
+journal_fault_text journal_faults.NoMemory = []
+
 -- what the program can be asked for, also what is not built yet
 abbrev pub usage : List ℕ
 usage = codes "usage: updatectl rehearse [SEED] [short|journal]\n       updatectl check\n       updatectl gen SEED CALLS\n       updatectl run memory|loopback [short|journal]\n"
@@ -46,19 +56,23 @@ refusal_text statuses.Done = []
 refusal_text statuses.SinkFailed = []
 refusal_text statuses.TurnsSpent = []
 refusal_text statuses.NoMemory = []
+refusal_text (statuses.NotARun place) = codes "not a run: event " ++ decimal place ++ codes "\n"
+refusal_text (statuses.JournalRefused fault) = journal_fault_text fault
 
 -- the last line of a run's text
 abbrev pub end_line : End → List ℕ
 end_line Settled = codes "end: settled\n"
 end_line Spent = codes "end: turns spent\n"
 
-abbrev pub is_short : Form → Bool
-is_short Long = false
-is_short Short = true
-
--- the report of a run with its end line
+-- the report of a run with its end line, or its journal's text
 unfoldable pub run_text : Form → Planned → Events → End → List ℕ
-run_text form plan past end = report the_rules plan past (is_short form) ++ end_line end
+run_text Long plan past end = report the_rules plan past false ++ end_line end
+run_text Short plan past end = report the_rules plan past true ++ end_line end
+run_text Journal plan past end = journal_text plan (reverse past)
+
+-- the report of a run that was read
+unfoldable pub checked_text : Planned → Events → List ℕ
+checked_text plan past = report the_rules plan past false ++ codes "end: a run\n"
 
 -- the exit status
 abbrev pub code_of : Status → ℕ
@@ -69,3 +83,5 @@ code_of statuses.SinkFailed = 4
 code_of (statuses.Scenario fault) = 5
 code_of statuses.TurnsSpent = 7
 code_of statuses.NoMemory = 9
+code_of (statuses.NotARun place) = 10
+code_of (statuses.JournalRefused fault) = 11

@@ -2,8 +2,11 @@
 use Rattle.std.specs.Prelude.{ℕ, Bool, List, [], ◌∷◌, ◌+◌, ◌-◌, ◌*◌, ◌^◌, ◌&&◌, codes, bytes_eq, length, nat_le, nat_lt, if◌then◌else◌, Option, Some, None, option_map}
 use Rattle.std.specs.Str.{all_ascii_digits}
 use Rattle.updatectl.specs.declared.words.Form.{Form}
-use Rattle.updatectl.specs.declared.words.Form.TheVariants.{Long, Short}
+use Rattle.updatectl.specs.declared.words.Form.TheVariants.{Long, Short, Journal}
 use Rattle.updatectl.specs.declared.words.Rehearse.{Rehearse}
+use Rattle.updatectl.specs.declared.words.Generate.{Generate}
+use Rattle.updatectl.specs.declared.words.Command.{Command}
+use Rattle.updatectl.specs.declared.words.Command.TheVariants as commands
 
 -- the number that decimal digits write, behind those of n
 abbrev pub read_on : ℕ → List ℕ → ℕ
@@ -21,7 +24,7 @@ unfoldable pub seed_of : List ℕ → Option ℕ
 seed_of word = if is_seed_text word then within_64_bits (read_on 0 word) else None
 
 unfoldable pub form_named : List ℕ → Option Form
-form_named word = if bytes_eq word (codes "short") then Some Short else None
+form_named word = if bytes_eq word (codes "short") then Some Short else if bytes_eq word (codes "journal") then Some Journal else None
 
 abbrev pub with_seed : Form → List ℕ → Option Rehearse
 with_seed form word = option_map (λ seed. record { seed = Some seed; form = form }) (seed_of word)
@@ -34,13 +37,44 @@ abbrev pub with_form : Option Form → List ℕ → Option Rehearse
 with_form (Some form) word = with_seed form word
 with_form None word = None
 
--- rehearse [SEED] [short]
+-- rehearse [SEED] [short|journal]
 abbrev pub rehearse_of : List (List ℕ) → Option Rehearse
 rehearse_of [] = Some (record { seed = None; form = Long })
 rehearse_of (word ∷ []) = alone (form_named word) word
 rehearse_of (word ∷ next ∷ []) = with_form (form_named next) word
 rehearse_of (word ∷ next ∷ more ∷ rest) = None
 
-abbrev pub command : List (List ℕ) → Option Rehearse
+-- check
+abbrev pub check_of : List (List ℕ) → Option Command
+check_of [] = Some commands.Check
+check_of (word ∷ rest) = None
+
+-- at most 4 digits, whose number is 1 to 1,000
+abbrev pub in_range : Option ℕ → Option ℕ
+in_range None = None
+in_range (Some n) = if nat_le 1 n && nat_le n 1000 then Some n else None
+
+abbrev pub calls_of : List ℕ → Option ℕ
+calls_of word = if nat_le (length word) 4 then in_range (seed_of word) else None
+
+abbrev pub with_calls : Option ℕ → Option ℕ → Option Generate
+with_calls None calls = None
+with_calls (Some seed) None = None
+with_calls (Some seed) (Some calls) = Some (record { seed = seed; calls = calls })
+
+-- gen SEED CALLS
+abbrev pub generate_of : List (List ℕ) → Option Generate
+generate_of [] = None
+generate_of (word ∷ []) = None
+generate_of (seed ∷ calls ∷ []) = with_calls (seed_of seed) (calls_of calls)
+generate_of (seed ∷ calls ∷ more ∷ rest) = None
+
+unfoldable pub named : List ℕ → List (List ℕ) → Option Command
+named first rest =
+    if bytes_eq first (codes "rehearse") then option_map (λ asked. commands.Rehearse asked) (rehearse_of rest)
+    else if bytes_eq first (codes "check") then check_of rest
+    else if bytes_eq first (codes "gen") then option_map (λ asked. commands.Generate asked) (generate_of rest) else None
+
+abbrev pub command : List (List ℕ) → Option Command
 command [] = None
-command (first ∷ rest) = if bytes_eq first (codes "rehearse") then rehearse_of rest else None
+command (first ∷ rest) = named first rest

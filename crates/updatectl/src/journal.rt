@@ -1,5 +1,5 @@
-//! The rehearsal of a plan, and what holds of every recorded run.
-ghost use Rattle.std.specs.Prelude.{◌≡◌, []};
+//! The opening and the rehearsal of a plan, and what holds of every recorded run.
+ghost use Rattle.std.specs.Prelude.{◌≡◌, [], IfOk};
 ghost use Rattle.run_journal.specs.Journal.{plan_of, past_of};
 ghost use Rattle.rehearsal.specs.Ends.{EndsAt};
 ghost use Rattle.rehearsal.specs.FullAtRest.{GoesOnFullAtRest};
@@ -12,6 +12,15 @@ use planned_calls::{journal_delivers_sends, journal_is_calm, journal_makes_calls
 use rehearsal::{Rehearsed, round_robin, seeded};
 use run_journal::Journal;
 use std::alloc::Global;
+use upd_base::{NoMemory, Plan};
+
+/// A journal without events. Modules serve every kind.
+pub(crate) fn opening(alloc: Global, plan: Plan) -> Result<Journal<Module>, NoMemory>
+    ensures plan { IfOk result (λ j. plan_of j ≡ plan) }
+    ensures past { IfOk result (λ j. past_of j ≡ []) }
+{
+    Journal::begin(alloc, plan)
+}
 
 /// Goes on with a fresh journal on one thread, by the seeded schedule where there is a seed and else by rounds.
 pub(crate) fn rehearse(

@@ -1,13 +1,21 @@
-//! Reads a scenario, runs the group that it describes, and reports what each member delivered.
+//! Reads a scenario, runs the group that it describes, and reports what each member delivered. Checks the text of a
+//! recorded run. Writes scenarios by a seed.
 #![tactic(auto)]
 
+mod check;
+mod generate;
 mod journal;
+mod journal_input;
 mod outcome;
+mod refusals;
 mod run_end;
+mod scenario_input;
+mod scenario_runs;
 mod std_edge;
 mod texts;
 mod top;
 mod words;
+mod writing;
 
 use std::env;
 use std::io::{Error, ErrorKind};

@@ -1,3 +1,4 @@
+use journal_file::JournalFault;
 use module_binding::Module;
 use run_journal::Journal;
 use scenario::ScenarioFault;
@@ -5,13 +6,14 @@ use scenario::ScenarioFault;
 /// How the program ended.
 #[derive(Drop)]
 pub enum Status {
-    /// The run is settled and its text was written whole.
+    /// A rehearsal is settled, a journal that was read is a run, or a scenario was generated, and its text was written
+    /// whole.
     Done,
     /// The words are no command.
     Words,
     /// The source failed while it was read.
     SourceFailed,
-    /// The sink failed while the report was written.
+    /// The sink failed while the text of a run or of a generated scenario was written.
     SinkFailed,
     /// The scenario is refused.
     Scenario(ScenarioFault),
@@ -19,9 +21,14 @@ pub enum Status {
     TurnsSpent,
     /// A request for memory was refused.
     NoMemory,
+    /// The journal's text is good, but this event, from 1, is the first that can't be made at its place or is answered
+    /// otherwise.
+    NotARun(u64),
+    /// The text is no journal's. The fault is too long or a line.
+    JournalRefused(JournalFault),
 }
 
-/// What the program did: how it ended, the journal of the run that it made, and its lines, of which
+/// What the program did: how it ended, the journal of the run that it made or read, and its lines, of which
 /// there are none so far.
 #[derive(Drop)]
 pub struct Outcome<L> {
@@ -46,6 +53,8 @@ impl Status {
             Status::Scenario(_) => 5,
             Status::TurnsSpent => 7,
             Status::NoMemory => 9,
+            Status::NotARun(_) => 10,
+            Status::JournalRefused(_) => 11,
         }
     }
 }

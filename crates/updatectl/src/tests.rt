@@ -17,6 +17,34 @@ member 2: version 0, sequencer 0, up, 1 delivered
 end: settled
 ";
 
+const ALONE: &str =
+    "{\"members\":1,\"first\":\"sequencer 0\",\"threads\":[[{\"at\":0,\"op\":\"send\",\"text\":\"a\"}]]}";
+
+const RECORDED: &str = "journal 1
+members 1
+first sequencer 0
+threads 1
+thread 1
+0 send a
+events 3
+call 0 0 0 accepted 0
+receive 0 0
+receive 0 0
+end
+";
+
+const CHECKED: &str = "run: 1 members, 3 events, 1 of 1 calls
+answers: 1 accepted, 0 done, 0 full, 0 crashed
+member 0: version 0, sequencer 0, up, 1 delivered
+  0 msg 0.0 a
+end: a run
+";
+
+const GENERATED: &str =
+    "{\"members\":5,\"first\":\"consensus\",\"threads\":[[{\"at\":2,\"op\":\"send\",\"text\":\"m0\"}],\
+[{\"at\":1,\"op\":\"send\",\"text\":\"m1\"}],[{\"at\":0,\"op\":\"send\",\"text\":\"m2\"}],[{\"at\":4,\"op\":\"send\",\"text\":\"m3\"}]]}
+";
+
 // The exit status and what the sink got, for words, an input and the calls that fail.
 fn run(
     alloc: Global,
@@ -54,6 +82,46 @@ fn statuses(rt: HostRuntime) -> Result<(), Fail> {
         (status, text.as_str()),
         (5, "scenario refused at /first: bad kind\n")
     );
+    Ok(())
+}
+
+#[test]
+fn recorded(rt: HostRuntime) -> Result<(), Fail> {
+    let alloc = rt.alloc();
+    let (status, text) = run(alloc, &["rehearse", "journal"], ALONE, &[], &[])?;
+    assert_eq!(rt; (status, text.as_str()), (0, RECORDED));
+    let (status, text) = run(alloc, &["check"], text.as_str(), &[], &[])?;
+    assert_eq!(rt; (status, text.as_str()), (0, CHECKED));
+    Ok(())
+}
+
+#[test]
+fn refused_journals(rt: HostRuntime) -> Result<(), Fail> {
+    let alloc = rt.alloc();
+    let other = "journal 1\nmembers 1\nfirst lamport\nthreads 1\nthread 0\nevents 1\n";
+    let text = format!(in alloc; "{other}receive 0 0\nend\n")?;
+    let (status, text) = run(alloc, &["check"], text.as_str(), &[], &[])?;
+    assert_eq!(rt; (status, text.as_str()), (10, "not a run: event 1\n"));
+    let (status, text) = run(alloc, &["check"], other, &[], &[])?;
+    assert_eq!(rt; (status, text.as_str()), (11, "journal refused: line 7\n"));
+    let (status, text) = run(alloc, &["check"], RECORDED, &[2], &[])?;
+    assert_eq!(rt; (status, text.as_str()), (3, "source failed\n"));
+    let (status, text) = run(alloc, &["check"], RECORDED, &[], &[2])?;
+    assert_eq!(rt; (status, text.as_str()), (4, "run: "));
+    Ok(())
+}
+
+#[test]
+fn generated(rt: HostRuntime) -> Result<(), Fail> {
+    let alloc = rt.alloc();
+    let (status, text) = run(alloc, &["gen", "7", "4"], "", &[1], &[])?;
+    assert_eq!(rt; (status, text.as_str()), (0, GENERATED));
+    let (status, text) = run(alloc, &["gen", "7", "4"], "", &[], &[2])?;
+    assert_eq!(rt; (status, text.as_str()), (4, "{\"mem"));
+    let (status, _) = run(alloc, &["gen", "7", "0"], "", &[], &[])?;
+    assert_eq!(rt; status, 2);
+    let (status, _) = run(alloc, &["gen", "7", "1001"], "", &[], &[])?;
+    assert_eq!(rt; status, 2);
     Ok(())
 }
 

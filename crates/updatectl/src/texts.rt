@@ -1,11 +1,14 @@
 //! The texts that the sink gets.
-ghost use Rattle.std.specs.Prelude.{◌≡◌, ◌++◌, IfOk};
+ghost use Rattle.std.specs.Prelude.{◌≡◌, ◌++◌, IfOk, string_bytes};
+ghost use Rattle.run_report.specs.Report.{report};
+ghost use Rattle.updatectl.specs.Recorded.{the_rules};
 ghost use Rattle.run_journal.specs.Journal.{plan_of, past_of};
-ghost use Rattle.updatectl.specs.Texts.{end_line, fault_text, is_short, reason_text, refusal_text, run_text, usage};
+ghost use Rattle.updatectl.specs.Texts.{checked_text, end_line, fault_text, journal_fault_text, reason_text, refusal_text, run_text, usage};
 
 use crate::outcome::Status;
 use crate::run_end::End;
 use crate::words::Form;
+use journal_file::{JournalFault, journal_text};
 use module_binding::Module;
 use run_journal::Journal;
 use run_report::report_text;
@@ -68,10 +71,31 @@ pub(crate) fn refusal_text(alloc: Global, status: &Status) -> Result<Vec<u8>, Al
         Status::Done | Status::SinkFailed | Status::TurnsSpent | Status::NoMemory => {
             Ok(Vec::new(alloc))
         }
+        Status::NotARun(place) => text_of(format!(in alloc; "not a run: event {}\n", *place)?),
+        Status::JournalRefused(fault) => journal_fault_text(alloc, fault),
     }
 }
 
-/// The report of a run with its end line.
+fn text_of(text: String) -> Result<Vec<u8>, AllocError>
+    ensures { IfOk result (λ bytes. bytes.items ≡ string_bytes text) }
+{
+    Ok(text.into_bytes())
+}
+
+#[tactic(auto, unfolding(crate::specs::Texts::journal_fault_text))]
+fn journal_fault_text(alloc: Global, fault: &JournalFault) -> Result<Vec<u8>, AllocError>
+    ensures { IfOk result (λ text. text.items ≡ journal_fault_text fault.now) }
+{
+    match fault {
+        JournalFault::TooLong => Vec::from_slice(alloc, b"journal refused: too long\n"),
+        JournalFault::Line(number) => {
+            text_of(format!(in alloc; "journal refused: line {}\n", *number)?)
+        }
+        JournalFault::Event(_) | JournalFault::NoMemory => Ok(Vec::new(alloc)),
+    }
+}
+
+/// The report of a run with its end line, or its journal's text.
 #[tactic(auto, unfolding(crate::specs::Texts::run_text))]
 pub(crate) fn run_text(
     alloc: Global,
@@ -81,18 +105,33 @@ pub(crate) fn run_text(
 ) -> Result<Vec<u8>, NoMemory>
     ensures { IfOk result (λ text. text.items ≡ run_text form (plan_of journal.now) (past_of journal.now) end) }
 {
-    let mut text = report_text(alloc, journal, is_short(form))?;
-    text.extend_from_slice(end_line(end).as_bytes())?;
-    Ok(text)
+    match form {
+        Form::Long => report_with(alloc, journal, false, end_line(end)),
+        Form::Short => report_with(alloc, journal, true, end_line(end)),
+        Form::Journal => journal_text(alloc, journal),
+    }
 }
 
-fn is_short(form: Form) -> bool
-    ensures { result ≡ is_short form }
+/// The report of a run that was read.
+#[tactic(auto, unfolding(crate::specs::Texts::checked_text))]
+pub(crate) fn checked_text(alloc: Global, journal: &Journal<Module>) -> Result<Vec<u8>, NoMemory>
+    ensures { IfOk result (λ text. text.items ≡ checked_text (plan_of journal.now) (past_of journal.now)) }
 {
-    match form {
-        Form::Long => false,
-        Form::Short => true,
-    }
+    report_with(alloc, journal, false, "end: a run\n")
+}
+
+/// The report of a run with a last line.
+fn report_with(
+    alloc: Global,
+    journal: &Journal<Module>,
+    short: bool,
+    last: &str,
+) -> Result<Vec<u8>, NoMemory>
+    ensures { IfOk result (λ text. text.items ≡ report the_rules (plan_of journal.now) (past_of journal.now) short ++ last.now) }
+{
+    let mut text = report_text(alloc, journal, short)?;
+    text.extend_from_slice(last.as_bytes())?;
+    Ok(text)
 }
 
 fn end_line(end: End) -> &'static str

@@ -1,209 +1,41 @@
-ghost use Rattle.std.specs.Prelude.{◌≡◌, ◌⊎◌, true, false, Some, None, Ok, Err, [], IfSome, IsSome, IfNone, OnSome, map, string_bytes};
-ghost use Rattle.std.specs.Io.KnownBytes.{Appends, Keeps, IsAtEnd};
+//! The commands that need no lines.
+ghost use Rattle.std.specs.Prelude.{ℕ, ◌≡◌, ◌⊎◌, ◌<◌, length, Some, None, Ok, Err, IfSome, IsSome, IfNone, OnSome, map, string_bytes};
+ghost use Rattle.std.specs.Io.KnownBytes.{IsAtEnd, Keeps};
 ghost use Rattle.upd_base.specs.Edge.{Rose};
 ghost use Rattle.upd_base.specs.Plan.{Planned};
-ghost use Rattle.upd_io.specs.Whole.{AppendsPrefix, AppendsLess};
+ghost use Rattle.upd_io.specs.Whole.{AppendsLess, AppendsPrefix};
 ghost use Rattle.scenario.specs.Reading.{reading};
 ghost use Rattle.scenario.specs.declared.fault.ScenarioFault.{ScenarioFault};
-ghost use Rattle.run_journal.specs.Journal.{plan_of, past_of};
-ghost use Rattle.updatectl.specs.Words.{command};
-ghost use Rattle.updatectl.specs.Recorded.{CameTo};
+ghost use Rattle.scenario_gen.specs.Spelling.{spelt};
+ghost use Rattle.run_journal.specs.Journal.{events_of, past_of, plan_of};
+ghost use Rattle.journal_file.specs.Reading.{HasWrongEvent, IsJournalText, ReadFault};
+ghost use Rattle.journal_file.specs.declared.fault.JournalFault.{JournalFault};
+ghost use Rattle.journal_file.specs.declared.fault.JournalFault.TheVariants as journal_faults;
+ghost use Rattle.journal_file.specs.declared.limits.TheConstants.{MAX_TEXT};
 ghost use Rattle.planned_calls.specs.Calls.{HasNo, is_suspect};
-ghost use Rattle.updatectl.specs.Rehearsal.{IsRehearsalOf};
+ghost use Rattle.updatectl.specs.Words.{command};
+ghost use Rattle.updatectl.specs.Recorded.{the_rules};
+ghost use Rattle.updatectl.specs.Rehearsal.{IsRehearsalOf, KeepsLaws};
 ghost use Rattle.updatectl.specs.Texts.{refusal_text};
-ghost use Rattle.updatectl.specs.Causes.{CameBy, IsAfter, IsAt, IsRefusal, IsWriting, OrMemory, PlanFrom, RefusalCause, Told, WroteRun, refused, status_at, status_of};
+ghost use Rattle.updatectl.specs.Causes.{IsOfScenario, IsRefusal, IsWriting, OrMemory, RefusalCause, Told, WroteRun};
+ghost use Rattle.updatectl.specs.Checked.{IsOfCheck, IsOfText, IsSound, IsWritten, WroteCheck, WroteText};
+ghost use Rattle.updatectl.specs.declared.words.Generate.{Generate};
 ghost use Rattle.updatectl.specs.declared.words.Rehearse.{Rehearse};
+ghost use Rattle.updatectl.specs.declared.words.Command.TheVariants as commands;
 ghost use Rattle.updatectl.specs.declared.outcome.Status.{Status};
-ghost use Rattle.updatectl.specs.declared.run_end.End.{End};
 
-use crate::journal::{keeps_laws, rehearse};
+use crate::check::check_journal;
+use crate::generate::write_scenario;
 use crate::outcome::{Outcome, Status};
-use crate::run_end::End;
-use crate::texts::{refusal_text, run_text};
-use crate::words::{Form, Rehearse, command_of};
-use module_binding::Module;
-use rehearsal::{RehearsalEnd, Rehearsed};
-use run_journal::Journal;
-use scenario::{MAX_TEXT, ScenarioFault, read};
+use crate::refusals::refuse;
+use crate::scenario_runs::rehearse_scenario;
+use crate::words::{Command, command_of};
 use std::alloc::Global;
-use upd_base::{EdgeFault, NoLine, NoMemory, Plan, Sink, Source};
-use upd_io::{read_all, write_all};
+use upd_base::{NoLine, Sink, Source};
 
-/// What the program did without a journal.
-fn without_journal(alloc: Global, status: Status) -> Outcome<NoLine>
-    ensures status { result.status ≡ status }
-    ensures journal { result.journal ≡ None }
-{
-    Outcome {
-        status,
-        journal: None,
-        lines: Vec::new(alloc),
-    }
-}
-
-/// Writes a refusal's text. A fault of the sink changes no status.
-fn refuse<K: Sink>(alloc: Global, status: Status, sink: &mut K) -> Outcome<NoLine>
-    requires { IsRefusal status }
-    ensures journal { result.journal ≡ None }
-    ensures status { OrMemory result.status status }
-    ensures told { result.status ≡ status → Told (K.faults sink.old) (K.faults sink.new) (K.held sink.old) (K.held sink.new) (refusal_text status) }
-    ensures front { AppendsPrefix (K.held sink.old) (K.held sink.new) (refusal_text status) }
-{
-    let Ok(text) = refusal_text(alloc, &status) else {
-        return without_journal(alloc, Status::NoMemory);
-    };
-    match write_all(sink, text.as_slice()) {
-        Ok(()) | Err(EdgeFault::Failed) => without_journal(alloc, status),
-        Err(EdgeFault::NoMemory) => without_journal(alloc, Status::NoMemory),
-    }
-}
-
-/// Gives back the journal of a rehearsal, whose text it writes where the run has come to its end.
-fn finish<K: Sink>(
-    alloc: Global,
-    form: Form,
-    rehearsed: Rehearsed<Module>,
-    sink: &mut K,
-) -> Outcome<NoLine>
-    requires { CameBy rehearsed.end (plan_of rehearsed.journal) (past_of rehearsed.journal) }
-    ensures journal { result.journal ≡ Some rehearsed.journal }
-    ensures status { IsAfter rehearsed.end result.status }
-    ensures wrote { WroteRun result.status form (plan_of rehearsed.journal) (past_of rehearsed.journal) (K.held sink.old) (K.held sink.new) }
-    ensures cause { result.status ≡ Status.SinkFailed → Rose (K.faults sink.old) (K.faults sink.new) }
-{
-    let Rehearsed { journal, end } = rehearsed;
-    let status = write_end(alloc, form, &journal, end, sink);
-    Outcome {
-        status,
-        journal: Some(journal),
-        lines: Vec::new(alloc),
-    }
-}
-
-/// Writes the text of a rehearsal, where it has come to the end of its run.
-fn write_end<K: Sink>(
-    alloc: Global,
-    form: Form,
-    journal: &Journal<Module>,
-    end: RehearsalEnd,
-    sink: &mut K,
-) -> Status
-    requires { CameBy end (plan_of journal.now) (past_of journal.now) }
-    ensures status { IsAfter end result }
-    ensures wrote { WroteRun result form (plan_of journal.now) (past_of journal.now) (K.held sink.old) (K.held sink.new) }
-    ensures cause { result ≡ Status.SinkFailed → Rose (K.faults sink.old) (K.faults sink.new) }
-{
-    match end {
-        RehearsalEnd::Settled => write_run(alloc, form, journal, End::Settled, sink),
-        RehearsalEnd::Spent => write_run(alloc, form, journal, End::Spent, sink),
-        RehearsalEnd::NoMemory => Status::NoMemory,
-    }
-}
-
-/// Writes the text of a run that has come to this end.
-fn write_run<K: Sink>(
-    alloc: Global,
-    form: Form,
-    journal: &Journal<Module>,
-    end: End,
-    sink: &mut K,
-) -> Status
-    requires { CameTo end (plan_of journal.now) (past_of journal.now) }
-    ensures status { IsAt end result }
-    ensures wrote { WroteRun result form (plan_of journal.now) (past_of journal.now) (K.held sink.old) (K.held sink.new) }
-    ensures cause { result ≡ Status.SinkFailed → Rose (K.faults sink.old) (K.faults sink.new) }
-{
-    match run_text(alloc, form, journal, end) {
-        Ok(text) => written(end, write_all(sink, text.as_slice())),
-        Err(NoMemory) => Status::NoMemory,
-    }
-}
-
-/// The status of a run that came to this end, by how the writing of its text went.
-fn written(end: End, wrote: Result<(), EdgeFault>) -> Status
-    ensures { result ≡ status_of end wrote }
-{
-    match wrote {
-        Ok(()) => whole(end),
-        Err(EdgeFault::Failed) => Status::SinkFailed,
-        Err(EdgeFault::NoMemory) => Status::NoMemory,
-    }
-}
-
-fn whole(end: End) -> Status
-    ensures { result ≡ status_at end }
-{
-    match end {
-        End::Settled => Status::Done,
-        End::Spent => Status::TurnsSpent,
-    }
-}
-
-/// Reads a plan from the source.
-fn plan_from<S: Source>(alloc: Global, source: &mut S) -> Result<Plan, Status>
-    ensures { PlanFrom result (S.faults source.old) (S.faults source.new) (S.left source.old) (S.left source.new) }
-{
-    let bytes = match read_all(alloc, source, MAX_TEXT) {
-        Ok(bytes) => bytes,
-        Err(EdgeFault::Failed) => return Err(Status::SourceFailed),
-        Err(EdgeFault::NoMemory) => return Err(Status::NoMemory),
-    };
-    match read(alloc, bytes.as_slice()) {
-        Ok(plan) => Ok(plan),
-        Err(fault) => Err(refused(fault)),
-    }
-}
-
-/// The status of a refused scenario. Want of memory has its own.
-fn refused(fault: ScenarioFault) -> Status
-    ensures { result ≡ refused fault }
-{
-    match fault {
-        ScenarioFault::NoMemory => Status::NoMemory,
-        fault => Status::Scenario(fault),
-    }
-}
-
-/// Runs a plan and writes its text.
-fn run<K: Sink>(alloc: Global, asked: Rehearse, plan: Plan, sink: &mut K) -> Outcome<NoLine>
-    ensures status { IsWriting result.status }
-    ensures there { OrMemory result.status Status.NoMemory ⊎ IsSome result.journal }
-    ensures plan { IfSome result.journal (λ j. plan_of j ≡ plan) }
-    ensures rehearsal { IfSome result.journal (λ j. IsRehearsalOf asked.seed result.status (plan_of j) (past_of j)) }
-    ensures complete { HasNo is_suspect plan → (Rose (K.faults sink.old) (K.faults sink.new) → ⊥) → OrMemory result.status Status.Done }
-    ensures wrote { IfSome result.journal (λ j. WroteRun result.status asked.form (plan_of j) (past_of j) (K.held sink.old) (K.held sink.new)) }
-    ensures cause { result.status ≡ Status.SinkFailed → Rose (K.faults sink.old) (K.faults sink.new) }
-    ensures memory { IfNone result.journal (Keeps (K.held sink.old) (K.held sink.new)) }
-{
-    match Journal::begin(alloc, plan) {
-        Ok(journal) => run_through(alloc, asked, journal, sink),
-        Err(NoMemory) => without_journal(alloc, Status::NoMemory),
-    }
-}
-
-/// Rehearses a fresh journal and writes the text of its run.
-fn run_through<K: Sink>(
-    alloc: Global,
-    asked: Rehearse,
-    journal: Journal<Module>,
-    sink: &mut K,
-) -> Outcome<NoLine>
-    requires { past_of journal ≡ [] }
-    ensures there { IsSome result.journal }
-    ensures status { IsWriting result.status }
-    ensures plan { IfSome result.journal (λ j. plan_of j ≡ plan_of journal) }
-    ensures rehearsal { IfSome result.journal (λ j. IsRehearsalOf asked.seed result.status (plan_of j) (past_of j)) }
-    ensures complete { HasNo is_suspect (plan_of journal) → (Rose (K.faults sink.old) (K.faults sink.new) → ⊥) → OrMemory result.status Status.Done }
-    ensures wrote { IfSome result.journal (λ j. WroteRun result.status asked.form (plan_of j) (past_of j) (K.held sink.old) (K.held sink.new)) }
-    ensures cause { result.status ≡ Status.SinkFailed → Rose (K.faults sink.old) (K.faults sink.new) }
-{
-    let rehearsed = rehearse(alloc, asked.seed, journal);
-    keeps_laws(&rehearsed.journal);
-    finish(alloc, asked.form, rehearsed, sink)
-}
-
-/// Does what the words ask for: `rehearse [SEED] [short]` reads a scenario from the source, runs it on one
-/// thread and writes its report to the sink. It always returns.
+/// Does what the words ask for. `rehearse [SEED] [short|journal]` reads a scenario from the source, runs it on
+/// one thread and writes its report, or its journal's text, to the sink. `check` reads a journal's text and writes the
+/// report of its run. `gen SEED CALLS` reads nothing and writes a scenario. It always returns.
 pub fn plain<S: Source, K: Sink>(
     alloc: Global,
     words: &[String],
@@ -219,36 +51,51 @@ pub fn plain<S: Source, K: Sink>(
     ensures sink_failed { result.status ≡ Status.SinkFailed → Rose (K.faults sink.old) (K.faults sink.new) }
     // Scenario: exactly where the bytes read as that fault.
     ensures scenario { (f : ScenarioFault) → result.status ≡ Status.Scenario f → IfSome (S.left source.old) (λ all. reading all ≡ Err f) }
-    ensures scenario_only { IsSome (command (map string_bytes words.now)) → IfSome (S.left source.old) (λ all. (f : ScenarioFault) → reading all ≡ Err f
+    ensures scenario_only { (asked : Rehearse) → command (map string_bytes words.now) ≡ Some (commands.Rehearse asked) → IfSome (S.left source.old) (λ all. (f : ScenarioFault) → reading all ≡ Err f
         → OrMemory result.status (Status.Scenario f) ⊎ (result.status ≡ Status.SourceFailed)) }
     // A run comes to its end, and its text is written.
-    ensures run_only { IsSome (command (map string_bytes words.now)) → IfSome (S.left source.old) (λ all. (p : Planned) → reading all ≡ Ok p
+    ensures run_only { (asked : Rehearse) → command (map string_bytes words.now) ≡ Some (commands.Rehearse asked) → IfSome (S.left source.old) (λ all. (p : Planned) → reading all ≡ Ok p
         → IsWriting result.status ⊎ (result.status ≡ Status.SourceFailed)) }
     // Where the plan has no suspicion and no edge fails, the run is settled and its text is written, want of memory aside.
-    ensures complete { IsSome (command (map string_bytes words.now)) → IfSome (S.left source.old) (λ all. (p : Planned) → reading all ≡ Ok p → HasNo is_suspect p
+    ensures complete { (asked : Rehearse) → command (map string_bytes words.now) ≡ Some (commands.Rehearse asked) → IfSome (S.left source.old) (λ all. (p : Planned) → reading all ≡ Ok p → HasNo is_suspect p
         → (Rose (S.faults source.old) (S.faults source.new) → ⊥) → (Rose (K.faults sink.old) (K.faults sink.new) → ⊥) → OrMemory result.status Status.Done) }
     // The journal is there once the run was begun, and it is of the plan that the whole input is.
-    ensures there { IsWriting result.status → OrMemory result.status Status.NoMemory ⊎ IsSome result.journal }
-    ensures plan { IfSome result.journal (λ j. IfSome (S.left source.old) (λ all. reading all ≡ Ok (plan_of j))) }
+    ensures there { (asked : Rehearse) → command (map string_bytes words.now) ≡ Some (commands.Rehearse asked) → IsWriting result.status → OrMemory result.status Status.NoMemory ⊎ IsSome result.journal }
+    ensures plan { (asked : Rehearse) → command (map string_bytes words.now) ≡ Some (commands.Rehearse asked) → IfSome result.journal (λ j. IfSome (S.left source.old) (λ all. reading all ≡ Ok (plan_of j))) }
     ensures to_end { OnSome result.journal (IsAtEnd (S.left source.new)) }
     // Its events are those of the schedule that the words ask for, and a run that keeps all that is promised of it.
-    ensures rehearsal { IfSome result.journal (λ j. (asked : Rehearse) → command (map string_bytes words.now) ≡ Some asked → IsRehearsalOf asked.seed result.status (plan_of j) (past_of j)) }
-    // The sink got the text of that run with the line of its end, or a prefix of it.
-    ensures run { IfSome result.journal (λ j. (asked : Rehearse) → command (map string_bytes words.now) ≡ Some asked
-        → WroteRun result.status asked.form (plan_of j) (past_of j) (K.held sink.old) (K.held sink.new)) }
+    ensures rehearsal { (asked : Rehearse) → command (map string_bytes words.now) ≡ Some (commands.Rehearse asked) → IfSome result.journal (λ j. IsRehearsalOf asked.seed result.status (plan_of j) (past_of j)) }
+    // The sink got the text of that run, or a prefix of it.
+    ensures run { (asked : Rehearse) → command (map string_bytes words.now) ≡ Some (commands.Rehearse asked) → IfSome result.journal (λ j. WroteRun result.status asked.form (plan_of j) (past_of j) (K.held sink.old) (K.held sink.new)) }
+    ensures rehearse_only { (asked : Rehearse) → command (map string_bytes words.now) ≡ Some (commands.Rehearse asked) → IsOfScenario result.status }
+    // A journal that was read is that of the whole input, its events keep the laws of a run, and its report is written.
+    ensures checked { command (map string_bytes words.now) ≡ Some commands.Check → IfSome result.journal (λ j. IfSome (S.left source.old) (λ all. IsJournalText all (plan_of j) (events_of j))) }
+    ensures checked_laws { command (map string_bytes words.now) ≡ Some commands.Check → IfSome result.journal (λ j. KeepsLaws (plan_of j) (past_of j)) }
+    ensures checked_report { command (map string_bytes words.now) ≡ Some commands.Check → IfSome result.journal (λ j. WroteCheck result.status (plan_of j) (past_of j) (K.held sink.old) (K.held sink.new)) }
+    ensures checked_there { command (map string_bytes words.now) ≡ Some commands.Check → IsWritten result.status → OrMemory result.status Status.NoMemory ⊎ IsSome result.journal }
+    ensures check_only { command (map string_bytes words.now) ≡ Some commands.Check → IsOfCheck result.status }
+    // NotARun: the text is good, and that event is the first that can't be made. JournalRefused: the text is none.
+    ensures not_a_run { (place : ℕ) → result.status ≡ Status.NotARun place → IfSome (S.left source.old) (λ all. HasWrongEvent the_rules all place) }
+    ensures journal_refused { (f : JournalFault) → result.status ≡ Status.JournalRefused f → IsOfText f × IfSome (S.left source.old) (λ all. ReadFault the_rules all f) }
+    ensures too_long_only { command (map string_bytes words.now) ≡ Some commands.Check → IfSome (S.left source.old) (λ all. MAX_TEXT < length all
+        → OrMemory result.status (Status.JournalRefused journal_faults.TooLong) ⊎ (result.status ≡ Status.SourceFailed)) }
+    // Where the bytes have none of these faults, the run is told.
+    ensures checked_sound { command (map string_bytes words.now) ≡ Some commands.Check → IfSome (S.left source.old) (λ all. IsSound all → IsWritten result.status ⊎ (result.status ≡ Status.SourceFailed)) }
+    // A generated scenario is written, and nothing is read.
+    ensures generated { (asked : Generate) → command (map string_bytes words.now) ≡ Some (commands.Generate asked) → IsWritten result.status × WroteText result.status (spelt asked.seed asked.calls) (K.held sink.old) (K.held sink.new) }
+    ensures generated_alone { (asked : Generate) → command (map string_bytes words.now) ≡ Some (commands.Generate asked) → (result.journal ≡ None) × (source.new ≡ source.old) }
     ensures refusal { IsRefusal result.status → Told (K.faults sink.old) (K.faults sink.new) (K.held sink.old) (K.held sink.new) (refusal_text result.status) }
     ensures refused_journal { IsRefusal result.status → result.journal ≡ None }
-    // At want of memory without a journal it got nothing, or a prefix of the text of a refusal that has its cause.
-    ensures memory { result.status ≡ Status.NoMemory → IfNone result.journal (Keeps (K.held sink.old) (K.held sink.new) ⊎ ((s : Status)
-        × RefusalCause s (command (map string_bytes words.now)) (S.faults source.old) (S.faults source.new) (S.left source.old)
-        × AppendsPrefix (K.held sink.old) (K.held sink.new) (refusal_text s))) }
+    // At want of memory without a journal it got nothing, a prefix of the text of a refusal that has its cause, or of the
+    // scenario that the words ask for.
+    ensures memory { result.status ≡ Status.NoMemory → IfNone result.journal (Keeps (K.held sink.old) (K.held sink.new)
+        ⊎ ((s : Status) × RefusalCause s (command (map string_bytes words.now)) (S.faults source.old) (S.faults source.new) (S.left source.old) × AppendsPrefix (K.held sink.old) (K.held sink.new) (refusal_text s))
+        ⊎ ((asked : Generate) × (command (map string_bytes words.now) ≡ Some (commands.Generate asked)) × AppendsLess (K.held sink.old) (K.held sink.new) (spelt asked.seed asked.calls))) }
 {
-    let Some(asked) = command_of(words) else {
-        return refuse(alloc, Status::Words, sink);
-    };
-    match plan_from(alloc, source) {
-        Ok(plan) => run(alloc, asked, plan, sink),
-        Err(Status::NoMemory) => without_journal(alloc, Status::NoMemory),
-        Err(status) => refuse(alloc, status, sink),
+    match command_of(words) {
+        Some(Command::Rehearse(asked)) => rehearse_scenario(alloc, asked, source, sink),
+        Some(Command::Check) => check_journal(alloc, source, sink),
+        Some(Command::Generate(asked)) => write_scenario(alloc, asked, sink),
+        None => refuse(alloc, Status::Words, sink),
     }
 }

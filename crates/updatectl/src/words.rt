@@ -1,14 +1,18 @@
-ghost use Rattle.std.specs.Prelude.{◌≡◌, map, string_bytes};
+ghost use Rattle.std.specs.Prelude.{◌≡◌, ◌≤◌, IfSome, Some, map, string_bytes};
 ghost use Rattle.std.specs.List.{list_all};
 ghost use Rattle.std.specs.Char.{is_ascii_digit};
 ghost use Rattle.std.specs.Str.{all_ascii_digits};
-ghost use Rattle.updatectl.specs.Words.{is_seed_text, seed_of, form_named, with_seed, rehearse_of, command};
+ghost use Rattle.updatectl.specs.declared.words.Generate.{Generate};
+ghost use Rattle.updatectl.specs.declared.words.Command.TheVariants as commands;
+ghost use Rattle.updatectl.specs.Words.{calls_of, check_of, command, form_named, generate_of, in_range, is_seed_text, named, rehearse_of, seed_of, with_seed};
 
 /// How a run is reported.
 #[derive(Clone, Copy, Debug, PartialEq, Eq)]
 pub enum Form {
     Long,
     Short,
+    /// The journal's own text, in place of a report.
+    Journal,
 }
 
 /// What `rehearse` is asked for.
@@ -16,6 +20,22 @@ pub enum Form {
 pub struct Rehearse {
     pub seed: Option<u64>,
     pub form: Form,
+}
+
+/// What `gen` is asked for.
+#[derive(Clone, Copy, Debug, PartialEq, Eq)]
+pub struct Generate {
+    pub seed: u64,
+    /// How many calls: 1 to 1,000.
+    pub calls: u16,
+}
+
+/// What the program is asked for.
+#[derive(Clone, Copy, Debug, PartialEq, Eq)]
+pub enum Command {
+    Rehearse(Rehearse),
+    Check,
+    Generate(Generate),
 }
 
 #[tactic(auto, using(crate::proofs::Seeds::all_digits))]
@@ -56,10 +76,12 @@ fn form_named(word: &str) -> Option<Form>
     ensures { result ≡ form_named word.now }
 {
     if word == "short" {
-        Some(Form::Short)
-    } else {
-        None
+        return Some(Form::Short);
     }
+    if word == "journal" {
+        return Some(Form::Journal);
+    }
+    None
 }
 
 fn with_seed(form: Form, word: &str) -> Option<Rehearse>
@@ -94,12 +116,75 @@ fn rehearse_of(words: &[String]) -> Option<Rehearse>
     }
 }
 
-/// What the words ask for.
-pub(crate) fn command_of(words: &[String]) -> Option<Rehearse>
-    ensures { result ≡ command (map string_bytes words.now) }
+fn in_range(number: u64) -> Option<u16>
+    ensures is { result ≡ in_range (Some number) }
+    ensures few { IfSome result (λ n. n ≤ 1000) }
+{
+    if number == 0 || number > 1000 {
+        return None;
+    }
+    Some(number as u16)
+}
+
+/// The number of 1 to 4 digits, where it is 1 to 1,000.
+fn calls_of(word: &str) -> Option<u16>
+    ensures is { result ≡ calls_of word.now }
+    ensures few { IfSome result (λ n. n ≤ 1000) }
+{
+    if word.len() > 4 {
+        return None;
+    }
+    in_range(seed_of(word)?)
+}
+
+fn generate_of(words: &[String]) -> Option<Generate>
+    ensures is { result ≡ generate_of (map string_bytes words.now) }
+    ensures few { IfSome result (λ g. g.calls ≤ 1000) }
 {
     match words {
-        [first, rest @ ..] if first.as_str() == "rehearse" => rehearse_of(rest),
+        [seed, calls] => {
+            let seed = seed_of(seed.as_str())?;
+            let calls = calls_of(calls.as_str())?;
+            Some(Generate { seed, calls })
+        }
         _ => None,
+    }
+}
+
+fn check_of(words: &[String]) -> Option<Command>
+    ensures { result ≡ check_of (map string_bytes words.now) }
+{
+    match words {
+        [] => Some(Command::Check),
+        _ => None,
+    }
+}
+
+/// What the first word and the others ask for.
+#[tactic(auto, unfolding(crate::specs::Words::named))]
+fn named(first: &str, rest: &[String]) -> Option<Command>
+    ensures is { result ≡ named first.now (map string_bytes rest.now) }
+    ensures few { (g : Generate) → result ≡ Some (commands.Generate g) → g.calls ≤ 1000 }
+{
+    if first == "rehearse" {
+        return Some(Command::Rehearse(rehearse_of(rest)?));
+    }
+    if first == "check" {
+        return check_of(rest);
+    }
+    if first == "gen" {
+        return Some(Command::Generate(generate_of(rest)?));
+    }
+    None
+}
+
+/// What the words ask for.
+pub(crate) fn command_of(words: &[String]) -> Option<Command>
+    ensures is { result ≡ command (map string_bytes words.now) }
+    ensures few { (g : Generate) → result ≡ Some (commands.Generate g) → g.calls ≤ 1000 }
+{
+    match words {
+        [first, rest @ ..] => named(first.as_str(), rest),
+        [] => None,
     }
 }

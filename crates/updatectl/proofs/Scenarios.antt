@@ -40,6 +40,8 @@ none_refused statuses.Words status before now (Some all) new from or = absurd fr
 none_refused statuses.Done status before now (Some all) new from or = absurd from
 none_refused statuses.SinkFailed status before now (Some all) new from or = absurd from
 none_refused statuses.TurnsSpent status before now (Some all) new from or = absurd from
+none_refused (statuses.NotARun place) status before now (Some all) new from or = absurd from
+none_refused (statuses.JournalRefused fault) status before now (Some all) new from or = absurd from
 
 pub none_complete : (given status : Status) (before now : ℕ) (old new : Option (List ℕ)) (Sink : Type 0) → PlanFrom (Err given) before now old new → OrMemory status given
     → IfSome old (λ all. (q : Planned) → reading all ≡ Ok q → HasNo is_suspect q → (Rose before now → ⊥) → (Sink → ⊥) → OrMemory status statuses.Done)
@@ -52,3 +54,5 @@ none_complete statuses.Words status before now (Some all) new Sink from or = abs
 none_complete statuses.Done status before now (Some all) new Sink from or = absurd from
 none_complete statuses.SinkFailed status before now (Some all) new Sink from or = absurd from
 none_complete statuses.TurnsSpent status before now (Some all) new Sink from or = absurd from
+none_complete (statuses.NotARun place) status before now (Some all) new Sink from or = absurd from
+none_complete (statuses.JournalRefused fault) status before now (Some all) new Sink from or = absurd from

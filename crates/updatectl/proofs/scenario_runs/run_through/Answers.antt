@@ -4,7 +4,7 @@ use Rattle.run_journal.specs.Journal.{plan_of, past_of}
 use Rattle.planned_calls.specs.Calls.{HasNo, is_suspect}
 use Rattle.updatectl.specs.Rehearsal.{IsRehearsalOf}
 use Rattle.updatectl.proofs.Rehearsals.{complete, is_writing, rehearsal_is}
-use Rattle.updatectl.proofs.top.run_through.Goals as goal
+use Rattle.updatectl.proofs.scenario_runs.run_through.Goals as goal
 
 pub returns-clause-rehearsal : goal.returns-clause-rehearsal
 returns-clause-rehearsal g c =

@@ -4,7 +4,7 @@ use Rattle.scenario.specs.Reading.{reading}
 use Rattle.updatectl.specs.Causes.{PlanFrom}
 use Rattle.updatectl.specs.declared.outcome.Status.{Status}
 use Rattle.updatectl.proofs.Read.{plan_read, fault_read}
-use Rattle.updatectl.proofs.top.plan_from.Goals as goal
+use Rattle.updatectl.proofs.scenario_input.plan_from.Goals as goal
 
 pub returns-in-Ok-read : goal.returns-in-Ok-read
 returns-in-Ok-read g c = plan_read _ _ _ _ c.in-Ok.ensures.bytes (ap reading (sym c.as_slice.ensures.value) ∙ c.in-Ok-read.ensures)

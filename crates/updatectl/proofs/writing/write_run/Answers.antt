@@ -5,7 +5,7 @@ use Rattle.run_journal.specs.Journal.{plan_of, past_of}
 use Rattle.updatectl.specs.Causes.{WroteRun}
 use Rattle.updatectl.specs.declared.outcome.Status.{Status}
 use Rattle.updatectl.proofs.Rehearsals.{wrote}
-use Rattle.updatectl.proofs.top.write_run.Goals as goal
+use Rattle.updatectl.proofs.writing.write_run.Goals as goal
 
 pub returns-in-Ok-clause-wrote : goal.returns-in-Ok-clause-wrote
 returns-in-Ok-clause-wrote g c =

@@ -1,0 +1,106 @@
+-- From the bytes of a journal's text that were read to all that the source had.
+use Rattle.std.proofs.Common.{ℕ, zero, suc, ◌+◌, ◌≡◌, ◌<◌, ◌≤◌, ◌⊎◌, inl, inr, List, [], ◌∷◌, length, take, Option, Some, None, IfSome, refl, sym, ap, ◌∙◌, subst, arith}
+use Rattle.upd_base.specs.Plan.{Planned}
+use Rattle.upd_base.specs.declared.event.Event.{Event}
+use Rattle.upd_io.specs.Whole.{ReadUpTo}
+use Rattle.journal_file.specs.Reading.{HasWrongEvent, IsFirstFault, IsJournalText, ReadFault}
+use Rattle.journal_file.specs.declared.fault.JournalFault.{JournalFault}
+use Rattle.journal_file.specs.declared.fault.JournalFault.TheVariants as faults
+use Rattle.journal_file.specs.declared.limits.TheConstants.{MAX_TEXT}
+use Rattle.updatectl.specs.Causes.{OrMemory}
+use Rattle.updatectl.specs.Checked.{IsOfCheck, IsSound, IsWritten, JournalCause, journal_refused}
+use Rattle.updatectl.specs.Recorded.{the_rules}
+use Rattle.updatectl.specs.declared.outcome.Status.{Status}
+use Rattle.updatectl.specs.declared.outcome.Status.TheVariants as statuses
+
+-- fewer bytes than were asked for are all
+all_taken : (k : ℕ) (all : List ℕ) → length (take (suc k) all) ≤ k → take (suc k) all ≡ all
+all_taken k [] le = refl
+all_taken zero (x ∷ xs) le = absurd (omega (arith, le))
+all_taken (suc k) (x ∷ xs) le = ap (λ l. x ∷ l) (all_taken k xs (omega (arith, le)))
+
+whole : (bytes all : List ℕ) → bytes ≡ take (MAX_TEXT + 1) all → length bytes ≤ MAX_TEXT → bytes ≡ all
+whole bytes all is short =
+    let next : MAX_TEXT + 1 ≡ suc MAX_TEXT = omega arith in
+    let front : bytes ≡ take (suc MAX_TEXT) all = is ∙ ap (λ k. take k all) next in
+    front ∙ all_taken MAX_TEXT all (subst (λ l. length l ≤ MAX_TEXT) front short)
+
+taken_fewer : (k : ℕ) (all : List ℕ) → length (take k all) ≤ length all
+taken_fewer zero all = omega arith
+taken_fewer (suc k) [] = omega arith
+taken_fewer (suc k) (x ∷ xs) = omega (arith, taken_fewer k xs)
+
+fault_of_all : (bytes all : List ℕ) (f : JournalFault) → bytes ≡ take (MAX_TEXT + 1) all → ReadFault the_rules bytes f → ReadFault the_rules all f
+fault_of_all bytes all faults.TooLong is more =
+    let fewer : length bytes ≤ length all = subst (λ l. length l ≤ length all) (sym is) (taken_fewer (MAX_TEXT + 1) all) in
+    let long : MAX_TEXT < length bytes = more in
+    omega (arith, fewer, long)
+fault_of_all bytes all (faults.Line number) is first = subst (λ l. IsFirstFault l number) (whole bytes all is first.short) first
+fault_of_all bytes all (faults.Event place) is wrong = subst (λ l. HasWrongEvent the_rules l place) (whole bytes all is wrong.2.short) wrong
+fault_of_all bytes all faults.NoMemory is free = tt
+
+pub journal_read : (old new : Option (List ℕ)) (bytes : List ℕ) (plan : Planned) (events : List Event) → ReadUpTo old new MAX_TEXT bytes → IsJournalText bytes plan events
+    → IfSome old (λ all. IsJournalText all plan events)
+journal_read None new bytes plan events read is = tt
+journal_read (Some all) new bytes plan events read is = subst (λ l. IsJournalText l plan events) (whole bytes all read.given is.short) is
+
+pub journal_fault : (old new : Option (List ℕ)) (bytes : List ℕ) (f : JournalFault) (before now : ℕ) → ReadUpTo old new MAX_TEXT bytes → ReadFault the_rules bytes f → JournalCause (journal_refused f) before now old
+journal_fault None new bytes faults.TooLong before now read is = (tt, tt)
+journal_fault None new bytes (faults.Line number) before now read is = (tt, tt)
+journal_fault None new bytes (faults.Event place) before now read is = tt
+journal_fault old new bytes faults.NoMemory before now read is = tt
+journal_fault (Some all) new bytes faults.TooLong before now read is = (tt, fault_of_all bytes all faults.TooLong read.given is)
+journal_fault (Some all) new bytes (faults.Line number) before now read is = (tt, fault_of_all bytes all (faults.Line number) read.given is)
+journal_fault (Some all) new bytes (faults.Event place) before now read is = fault_of_all bytes all (faults.Event place) read.given is
+
+-- What the bytes must be where they are not reported -----------------------------------------------------------------
+
+pub long_only : (status : Status) (before now : ℕ) (old : Option (List ℕ)) → JournalCause status before now old
+    → IfSome old (λ all. MAX_TEXT < length all → OrMemory status (statuses.JournalRefused faults.TooLong) ⊎ (status ≡ statuses.SourceFailed))
+long_only status before now None cause = tt
+long_only statuses.SourceFailed before now (Some all) cause = λ long. inr refl
+long_only (statuses.NotARun place) before now (Some all) cause = λ long. absurd (let short = cause.2.short in omega (arith, long, short))
+long_only (statuses.JournalRefused faults.TooLong) before now (Some all) cause = λ long. inl (inl refl)
+long_only (statuses.JournalRefused (faults.Line number)) before now (Some all) cause = λ long. absurd (let short = cause.1.short in omega (arith, long, short))
+long_only (statuses.JournalRefused (faults.Event place)) before now (Some all) cause = λ long. absurd cause.0
+long_only (statuses.JournalRefused faults.NoMemory) before now (Some all) cause = λ long. absurd cause.0
+long_only statuses.NoMemory before now (Some all) cause = λ long. inl (inr refl)
+long_only statuses.Words before now (Some all) cause = absurd cause
+long_only statuses.Done before now (Some all) cause = absurd cause
+long_only statuses.SinkFailed before now (Some all) cause = absurd cause
+long_only (statuses.Scenario fault) before now (Some all) cause = absurd cause
+long_only statuses.TurnsSpent before now (Some all) cause = absurd cause
+
+pub sound_only : (status : Status) (before now : ℕ) (old : Option (List ℕ)) → JournalCause status before now old → IfSome old (λ all. IsSound all → IsWritten status ⊎ (status ≡ statuses.SourceFailed))
+sound_only status before now None cause = tt
+sound_only statuses.SourceFailed before now (Some all) cause = λ sound. inr refl
+sound_only (statuses.NotARun place) before now (Some all) cause = λ sound. absurd (sound (faults.Event place) (λ e. cc) cause)
+sound_only (statuses.JournalRefused faults.TooLong) before now (Some all) cause = λ sound. absurd (sound faults.TooLong (λ e. cc) cause.1)
+sound_only (statuses.JournalRefused (faults.Line number)) before now (Some all) cause = λ sound. absurd (sound (faults.Line number) (λ e. cc) cause.1)
+sound_only (statuses.JournalRefused (faults.Event place)) before now (Some all) cause = λ sound. absurd cause.0
+sound_only (statuses.JournalRefused faults.NoMemory) before now (Some all) cause = λ sound. absurd cause.0
+sound_only statuses.NoMemory before now (Some all) cause = λ sound. inl (inr (inr refl))
+sound_only statuses.Words before now (Some all) cause = absurd cause
+sound_only statuses.Done before now (Some all) cause = absurd cause
+sound_only statuses.SinkFailed before now (Some all) cause = absurd cause
+sound_only (statuses.Scenario fault) before now (Some all) cause = absurd cause
+sound_only statuses.TurnsSpent before now (Some all) cause = absurd cause
+
+-- Refusals ------------------------------------------------------------------------------------------------------------
+
+-- want of memory may take the place of what was to be told
+pub told_cause : (given status : Status) (before now : ℕ) (old : Option (List ℕ)) → JournalCause given before now old → OrMemory status given → JournalCause status before now old
+told_cause given status before now old cause (inl e) = subst (λ (s : Status). JournalCause s before now old) (sym e) cause
+told_cause given status before now old cause (inr e) = subst (λ (s : Status). JournalCause s before now old) (sym e) tt
+
+-- the status of what was not read is a refusal, or want of memory
+pub is_of_check : (given : Status) (before now : ℕ) (old : Option (List ℕ)) → JournalCause given before now old → IsOfCheck given
+is_of_check statuses.SourceFailed before now old cause = tt
+is_of_check (statuses.NotARun place) before now old cause = tt
+is_of_check (statuses.JournalRefused fault) before now old cause = tt
+is_of_check statuses.NoMemory before now old cause = tt
+is_of_check statuses.Words before now old cause = absurd cause
+is_of_check statuses.Done before now old cause = absurd cause
+is_of_check statuses.SinkFailed before now old cause = absurd cause
+is_of_check (statuses.Scenario fault) before now old cause = absurd cause
+is_of_check statuses.TurnsSpent before now old cause = absurd cause

@@ -1,0 +1,83 @@
+//! `check`: a journal's text, read and reported.
+ghost use Rattle.std.specs.Prelude.{ℕ, ◌≡◌, ◌≤◌, ◌<◌, ◌⊎◌, IfNone, IfSome, None, OnSome, Some, length};
+ghost use Rattle.std.specs.Io.KnownBytes.{IsAtEnd, Keeps};
+ghost use Rattle.upd_base.specs.Edge.{Rose};
+ghost use Rattle.upd_io.specs.Whole.{AppendsPrefix};
+ghost use Rattle.run_journal.specs.Journal.{events_of, past_of, plan_of};
+ghost use Rattle.journal_file.specs.Reading.{IsJournalText};
+ghost use Rattle.journal_file.specs.declared.fault.JournalFault.TheVariants as journal_faults;
+ghost use Rattle.journal_file.specs.declared.limits.TheConstants.{MAX_TEXT};
+ghost use Rattle.updatectl.specs.Causes.{IsRefusal, OrMemory, Told};
+ghost use Rattle.updatectl.specs.Checked.{IsOfCheck, IsSound, IsWritten, JournalCause, WroteCheck};
+ghost use Rattle.updatectl.specs.Rehearsal.{KeepsLaws};
+ghost use Rattle.updatectl.specs.Texts.{refusal_text};
+ghost use Rattle.updatectl.specs.declared.outcome.Status.{Status};
+
+use crate::journal::keeps_laws;
+use crate::journal_input::journal_from;
+use crate::outcome::{Outcome, Status};
+use crate::refusals::{refuse, without_journal};
+use crate::texts::checked_text;
+use crate::writing::write_text;
+use module_binding::Module;
+use run_journal::Journal;
+use std::alloc::Global;
+use upd_base::{NoLine, NoMemory, Sink, Source};
+
+/// Reads a journal from the source and writes the report of its run to the sink.
+pub(crate) fn check_journal<S: Source, K: Sink>(
+    alloc: Global,
+    source: &mut S,
+    sink: &mut K,
+) -> Outcome<NoLine>
+    ensures kind { IsOfCheck result.status }
+    ensures text { IfSome result.journal (λ j. IfSome (S.left source.old) (λ all. IsJournalText all (plan_of j) (events_of j))) }
+    ensures to_end { OnSome result.journal (IsAtEnd (S.left source.new)) }
+    ensures laws { IfSome result.journal (λ j. KeepsLaws (plan_of j) (past_of j)) }
+    ensures written { OnSome result.journal (IsWritten result.status) }
+    ensures wrote { IfSome result.journal (λ j. WroteCheck result.status (plan_of j) (past_of j) (K.held sink.old) (K.held sink.new)) }
+    ensures sink_failed { result.status ≡ Status.SinkFailed → Rose (K.faults sink.old) (K.faults sink.new) }
+    ensures cause { IfNone result.journal (JournalCause result.status (S.faults source.old) (S.faults source.new) (S.left source.old)) }
+    ensures too_long_only { IfSome (S.left source.old) (λ all. MAX_TEXT < length all
+        → OrMemory result.status (Status.JournalRefused journal_faults.TooLong) ⊎ (result.status ≡ Status.SourceFailed)) }
+    ensures sound { IfSome (S.left source.old) (λ all. IsSound all → IsWritten result.status ⊎ (result.status ≡ Status.SourceFailed)) }
+    ensures refusal { IsRefusal result.status → Told (K.faults sink.old) (K.faults sink.new) (K.held sink.old) (K.held sink.new) (refusal_text result.status) }
+    ensures refused_journal { IsRefusal result.status → result.journal ≡ None }
+    ensures memory { result.status ≡ Status.NoMemory → IfNone result.journal (Keeps (K.held sink.old) (K.held sink.new) ⊎ ((s : Status)
+        × IsRefusal s × JournalCause s (S.faults source.old) (S.faults source.new) (S.left source.old) × AppendsPrefix (K.held sink.old) (K.held sink.new) (refusal_text s))) }
+{
+    match journal_from(alloc, source) {
+        Ok(journal) => report_read(alloc, journal, sink),
+        Err(Status::NoMemory) => without_journal(alloc, Status::NoMemory),
+        Err(status) => refuse(alloc, status, sink),
+    }
+}
+
+/// Reports a journal that was read, and gives it back.
+fn report_read<K: Sink>(alloc: Global, journal: Journal<Module>, sink: &mut K) -> Outcome<NoLine>
+    ensures journal { result.journal ≡ Some journal }
+    ensures laws { KeepsLaws (plan_of journal) (past_of journal) }
+    ensures status { IsWritten result.status }
+    ensures wrote { WroteCheck result.status (plan_of journal) (past_of journal) (K.held sink.old) (K.held sink.new) }
+    ensures cause { result.status ≡ Status.SinkFailed → Rose (K.faults sink.old) (K.faults sink.new) }
+{
+    keeps_laws(&journal);
+    let status = report(alloc, &journal, sink);
+    Outcome {
+        status,
+        journal: Some(journal),
+        lines: Vec::new(alloc),
+    }
+}
+
+/// Writes the report of a run that was read.
+fn report<K: Sink>(alloc: Global, journal: &Journal<Module>, sink: &mut K) -> Status
+    ensures status { IsWritten result }
+    ensures wrote { WroteCheck result (plan_of journal.now) (past_of journal.now) (K.held sink.old) (K.held sink.new) }
+    ensures cause { result ≡ Status.SinkFailed → Rose (K.faults sink.old) (K.faults sink.new) }
+{
+    match checked_text(alloc, journal) {
+        Ok(text) => write_text(text.as_slice(), sink),
+        Err(NoMemory) => Status::NoMemory,
+    }
+}
