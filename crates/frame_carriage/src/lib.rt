@@ -6,3 +6,6 @@ mod limits;
 
 pub use carriage::{Came, CarryFault, MAX_FRAME, PIECE, carry};
 pub use limits::keeps_limits;
+
+#[cfg(test)]
+mod tests;
