@@ -2,6 +2,7 @@ ghost use Rattle.std.specs.Prelude.{true, ◌≡◌, ◌<◌, ◌≤◌, IfOk};
 ghost use Rattle.upd_base.specs.Kind.{KindFits};
 ghost use Rattle.member_core.specs.Member.{kept_by};
 
+use crate::again::{call_again, take_again};
 use member_core::{Input, Member, Sent};
 use order_trait::Ordering;
 use sequencer_order::SequencerOrder;
@@ -9,9 +10,9 @@ use std::alloc::Global;
 use std::test::*;
 use upd_base::{Answer, Body, Call, Frame, Kind, MemberId, Text};
 
-type One = Member<SequencerOrder>;
+pub(crate) type One = Member<SequencerOrder>;
 
-fn member(id: u8) -> Result<MemberId, Fail>
+pub(crate) fn member(id: u8) -> Result<MemberId, Fail>
     ensures { IfOk result (λ m. m ≡ id) }
 {
     match MemberId::new(id) {
@@ -21,7 +22,7 @@ fn member(id: u8) -> Result<MemberId, Fail>
 }
 
 /// Member 0 of a group of n, whose first kind is the sequencer 0.
-fn started(alloc: Global, n: u8) -> Result<One, Fail>
+pub(crate) fn started(alloc: Global, n: u8) -> Result<One, Fail>
     requires some { 1 ≤ n }
     requires few { n ≤ 7 }
     ensures { IfOk result (λ m. (kept_by m).members ≡ n) }
@@ -34,7 +35,7 @@ fn started(alloc: Global, n: u8) -> Result<One, Fail>
     Ok(Member::start(alloc, n, zero, first)?)
 }
 
-fn send(alloc: Global, one: &mut One, out: &mut Sent) -> Result<Answer, Fail>
+pub(crate) fn send(alloc: Global, one: &mut One, out: &mut Sent) -> Result<Answer, Fail>
     ensures { (kept_by one.new).members ≡ (kept_by one.old).members }
 {
     let Some(text) = Text::new(alloc, b"a")? else {
@@ -43,10 +44,15 @@ fn send(alloc: Global, one: &mut One, out: &mut Sent) -> Result<Answer, Fail>
     if one.accepted() >= 1_000_000 {
         return Err("too many")?;
     }
-    Ok(one.call(alloc, &Call::Send(text), out)?)
+    call_again(alloc, one, &Call::Send(text), out)
 }
 
-fn change(alloc: Global, one: &mut One, kind: Kind, out: &mut Sent) -> Result<Answer, Fail>
+pub(crate) fn change(
+    alloc: Global,
+    one: &mut One,
+    kind: Kind,
+    out: &mut Sent,
+) -> Result<Answer, Fail>
     ensures { (kept_by one.new).members ≡ (kept_by one.old).members }
 {
     if !SequencerOrder::serves(kind) {
@@ -55,25 +61,61 @@ fn change(alloc: Global, one: &mut One, kind: Kind, out: &mut Sent) -> Result<An
     if one.accepted() >= 1_000_000 {
         return Err("too many")?;
     }
-    Ok(one.call(alloc, &Call::Change(kind), out)?)
+    Ok(call_again(alloc, one, &Call::Change(kind), out)?)
 }
 
-fn suspect(alloc: Global, one: &mut One, who: u8, out: &mut Sent) -> Result<Answer, Fail>
+pub(crate) fn suspect(alloc: Global, one: &mut One, who: u8, out: &mut Sent) -> Result<Answer, Fail>
     ensures { (kept_by one.new).members ≡ (kept_by one.old).members }
 {
     if one.accepted() >= 1_000_000 {
         return Err("too many")?;
     }
-    Ok(one.call(alloc, &Call::Suspect(who), out)?)
+    call_again(alloc, one, &Call::Suspect(who), out)
 }
 
-fn crash(alloc: Global, one: &mut One, out: &mut Sent) -> Result<Answer, Fail>
+pub(crate) fn crash(alloc: Global, one: &mut One, out: &mut Sent) -> Result<Answer, Fail>
     ensures { (kept_by one.new).members ≡ (kept_by one.old).members }
 {
     if one.accepted() >= 1_000_000 {
         return Err("too many")?;
     }
-    Ok(one.call(alloc, &Call::Crash, out)?)
+    call_again(alloc, one, &Call::Crash, out)
+}
+
+pub(crate) fn trust(alloc: Global, one: &mut One, who: u8, out: &mut Sent) -> Result<Answer, Fail>
+    ensures { (kept_by one.new).members ≡ (kept_by one.old).members }
+{
+    if one.accepted() >= 1_000_000 {
+        return Err("too many")?;
+    }
+    call_again(alloc, one, &Call::Trust(who), out)
+}
+
+/// The member of a group of n takes a frame of another or of itself.
+pub(crate) fn take(
+    alloc: Global,
+    one: &mut One,
+    n: u8,
+    from: u8,
+    frame: Frame,
+    out: &mut Sent,
+) -> Result<(), Fail>
+    requires { (kept_by one.old).members ≡ n }
+    ensures { (kept_by one.new).members ≡ n }
+{
+    if one.crashed() {
+        return Err("up")?;
+    }
+    if from >= n {
+        return Err("a member of the group")?;
+    }
+    if !frame.fits(n) {
+        return Err("a frame that fits")?;
+    }
+    if !frame.body.counts_from_one() {
+        return Err("a body that counts")?;
+    }
+    take_again(alloc, one, member(from)?, frame, out)
 }
 
 /// The member of a group of one takes a frame that it sent to itself.
@@ -81,18 +123,7 @@ fn receive(alloc: Global, one: &mut One, frame: Frame, out: &mut Sent) -> Result
     requires { (kept_by one.old).members ≡ 1 }
     ensures { (kept_by one.new).members ≡ 1 }
 {
-    if one.crashed() {
-        return Err("up")?;
-    }
-    if !frame.fits(1) {
-        return Err("a frame that fits")?;
-    }
-    if !frame.body.counts_from_one() {
-        return Err("a body that counts")?;
-    }
-    let zero = member(0)?;
-    one.take(alloc, zero, frame, out)?;
-    Ok(())
+    take(alloc, one, 1, 0, frame, out)
 }
 
 /// The next frame of the member of a group of one goes back to it.
