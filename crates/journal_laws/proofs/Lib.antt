@@ -1,3 +1,5 @@
 pub mod Spellings
 pub mod Next
 pub mod Ends
+pub mod Lines
+pub mod Texts
