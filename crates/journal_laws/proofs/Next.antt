@@ -32,10 +32,10 @@ events_same : (m n : ℕ) → m < 2 ^ 64 → n < 2 ^ 64 → events_line m ≡ ev
 unfolding events_line
 events_same m n p q e = counted (codes "events ") m n p q e
 
-few_calls : (plan : Planned) (count : ℕ) → calls_with plan count ≤ MAX_CALLS → count < 2 ^ 64
+pub few_calls : (plan : Planned) (count : ℕ) → calls_with plan count ≤ MAX_CALLS → count < 2 ^ 64
 few_calls plan count l = omega (arith, l)
 
-few_events : (plan : Planned) (count : ℕ) → is_plan plan ≡ true → count ≤ bound plan → count < 2 ^ 64
+pub few_events : (plan : Planned) (count : ℕ) → is_plan plan ≡ true → count ≤ bound plan → count < 2 ^ 64
 few_events plan count is l = let b = bound-le plan is in omega (arith, b, l)
 
 pub follows_one : (w : Wanted) (line : Line) (next other : Wanted) → IsWithin w → Follows w line next → Follows w line other → next ≡ other

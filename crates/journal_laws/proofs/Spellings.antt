@@ -131,15 +131,16 @@ call_below n at (Suspect who) few fits = let h = nat_lt-true who n (and_parts (n
 call_below n at (Trust who) few fits = let h = nat_lt-true who n (and_parts (nat_lt who n) _ fits).0 in omega (arith, h, few)
 call_below n at Crash few fits = tt
 
-at_below : (n : ℕ) (s : Step) → n ≤ 7 → step_fits n s ≡ true → s.at < 2 ^ 64
+pub at_below : (n : ℕ) (s : Step) → n ≤ 7 → step_fits n s ≡ true → s.at < 2 ^ 64
 at_below n s few fits = let h = nat_lt-true s.at n (and_parts (nat_lt s.at n) (call_fits n s.at s.call) fits).0 in omega (arith, h, few)
+
+pub step_below : (n : ℕ) (s : Step) → n ≤ 7 → step_fits n s ≡ true → CallBelow s.call
+step_below n s few fits = call_below n s.at s.call few (and_parts (nat_lt s.at n) (call_fits n s.at s.call) fits).1
 
 pub same_step : (n : ℕ) (s t : Step) → n ≤ 7 → step_fits n s ≡ true → step_fits n t ≡ true → step_line s ≡ step_line t → s ≡ t
 unfolding step_line
 same_step n s t few f g e =
     let words = sym (two_words (decimal s.at) (call_text s.call)) ∙ e ∙ two_words (decimal t.at) (call_text t.call) in
     let at = numbers s.at t.at (spaced (call_text s.call)) (spaced (call_text t.call)) (at_below n s few f) (at_below n t few g) refl refl words in
-    let mine = call_below n s.at s.call few (and_parts (nat_lt s.at n) (call_fits n s.at s.call) f).1 in
-    let other = call_below n t.at t.call few (and_parts (nat_lt t.at n) (call_fits n t.at t.call) g).1 in
-    let call = same_call s.call t.call mine other (behind (codes " ") _ _ at.1) in
+    let call = same_call s.call t.call (step_below n s few f) (step_below n t few g) (behind (codes " ") _ _ at.1) in
     λ x. record { at = at.0 x; call = call x }
