@@ -48,6 +48,9 @@ fn one_change(alloc: Global) -> Result<Journal<Module>, Fail> {
 /// The log of its run.
 const ONE_CHANGE: [(u16, u8, u32, bool); 3] = [(0, 0, 0, true), (0, 0, 1, false), (1, 1, 0, true)];
 
+/// The log where the second message is ordered before the change.
+const CHANGE_LAST: [(u16, u8, u32, bool); 3] = [(0, 0, 0, true), (0, 1, 0, true), (0, 0, 1, false)];
+
 /// The whole run by rounds.
 fn one_change_run(alloc: Global) -> Result<Journal<Module>, Fail> {
     let mut journal = one_change(alloc)?;
@@ -68,7 +71,8 @@ fn a_change_by_rounds(rt: HostRuntime) -> Result<(), Fail> {
     Ok(())
 }
 
-/// Where memory is refused, the events are the first of the whole run; from there the rounds begin anew and come to an end.
+/// Where memory is refused, the events are the first of the whole run. From there a round begins anew, so a call may come
+/// before receipts that the whole run makes first.
 #[test]
 fn rounds_that_go_on(rt: HostRuntime) -> Result<(), Fail> {
     let alloc = rt.alloc();
@@ -86,7 +90,9 @@ fn rounds_that_go_on(rt: HostRuntime) -> Result<(), Fail> {
         assert_eq!(rt; journal.len(), whole.len());
     }
     assert_eq!(rt; end, RehearsalEnd::Settled);
-    assert!(rt; all_delivered(&journal, ONE_CHANGE.as_slice())?);
+    let planned = all_delivered(&journal, ONE_CHANGE.as_slice())?;
+    let overtaken = all_delivered(&journal, CHANGE_LAST.as_slice())?;
+    assert!(rt; planned || overtaken);
     Ok(())
 }
 
