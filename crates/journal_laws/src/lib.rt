@@ -1,6 +1,5 @@
-//! The causes of the answers of a reading of a journal exclude one another.
-//!
-//! What is said of a text is said where each message that its plan sends is a payload, so that no message has a line end.
+//! The causes of the answers of a reading of a journal exclude one another: besides want of memory, each answer comes
+//! just where its cause holds.
 #![tactic(auto)]
 
 ghost use Rattle.journal_laws.specs.Laws.{IsAnsweredOneWay, IsReadOneWay, NamesNoEvent, NamesNoLine, NamesOneEvent, NamesOneLine};
