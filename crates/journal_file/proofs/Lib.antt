@@ -3,6 +3,7 @@ pub mod Digits
 pub mod Fronts
 pub mod Leading
 pub mod Keeping
+pub mod Sent
 pub mod Whole
 pub mod Spelling
 pub mod Stages

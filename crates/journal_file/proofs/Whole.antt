@@ -14,6 +14,7 @@ use Rattle.journal_file.specs.Within.{AreEvents, IsWithin}
 use Rattle.journal_file.specs.declared.limits.TheConstants.{MAX_TEXT}
 use Rattle.journal_file.proofs.Keeping.{leads_within}
 use Rattle.journal_file.proofs.Leading.{IsReached}
+use Rattle.journal_file.proofs.Sent.{leads_sent}
 
 -- the lines of a plan's head and of its first threads, where it is to have so many
 abbrev head_lines : Planned → ℕ → List Line
@@ -101,6 +102,7 @@ whole bytes rest number plan es s r e =
     record {
       short = s;
       of_plan = within.of_plan;
+      payloads = leads_sent WantsHeading (WantsNothing plan es) r.before tt r.leads;
       few = let h = within.few in omega (arith, h);
       fit = within.fit;
       text = r.text ∙ ap (λ x. text_of r.before ++ x) e ∙ append-nil (text_of r.before) ∙ ap text_of (sym (leads_so_far WantsHeading (WantsNothing plan es) r.before r.leads));

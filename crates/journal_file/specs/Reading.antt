@@ -5,7 +5,7 @@ use Rattle.upd_base.specs.declared.event.Event.{Event}
 use Rattle.group_run.specs.Group.{Rules}
 use Rattle.group_run.specs.Run.{IsGroupRun, IsEnabled}
 use Rattle.journal_file.specs.Text.{Line, ended, journal_text, text_of}
-use Rattle.journal_file.specs.Grammar.{Wanted, Follows, Leads, EventFits}
+use Rattle.journal_file.specs.Grammar.{Wanted, Follows, Leads, EventFits, TextFits}
 use Rattle.journal_file.specs.Grammar.Wanted.{WantsHeading, WantsNothing}
 use Rattle.journal_file.specs.declared.fault.JournalFault.{JournalFault}
 use Rattle.journal_file.specs.declared.fault.JournalFault.TheVariants as faults
@@ -37,10 +37,15 @@ pub record IsFirstFault (bytes : List ℕ) (number : ℕ) : Type 0 where
   pub leads : Leads WantsHeading before wanted
   pub refused : IsRefused wanted rest
 
+-- each text that the plan sends is a payload
+abbrev pub HasPayloads : Planned → Type 0
+HasPayloads plan = All (All (λ s. TextFits s.call)) plan.threads
+
 -- The bytes are the text of this plan and these events, which keep their limits.
 pub record IsJournalText (bytes : List ℕ) (plan : Planned) (events : List Event) : Type 0 where
   pub short : length bytes ≤ MAX_TEXT
   pub of_plan : is_plan plan ≡ true
+  pub payloads : HasPayloads plan
   pub few : length events ≤ bound plan
   pub fit : All EventFits events
   pub text : bytes ≡ journal_text plan events

@@ -14,8 +14,7 @@ use Rattle.upd_base.proofs.PlanFacts.{plan_facts}
 use Rattle.journal_file.specs.Text.{Line, event_line, event_lines, journal_lines, journal_text, last_line, step_line, text_of, thread_lines}
 use Rattle.journal_file.specs.Grammar.{EventFits, Leads, TextFits, Wanted, calls_with, changes_with, event_or_end, step_or_thread, thread_or_events, with_thread}
 use Rattle.journal_file.specs.Grammar.Wanted.{WantsHeading, WantsMembers, WantsFirst, WantsThreads, WantsThread, WantsEvents, WantsEnd, WantsNothing}
-use Rattle.journal_file.specs.Reading.{IsFirstFault, IsRefused}
-use Rattle.journal_laws.specs.Laws.{IsTextOf}
+use Rattle.journal_file.specs.Reading.{IsJournalText, IsFirstFault, IsRefused}
 use Rattle.journal_laws.proofs.Ends.{IsEnd, fault_end, one_end}
 use Rattle.journal_laws.proofs.Lines.{leads_lines}
 
@@ -79,12 +78,12 @@ some_threads : (p : Planned) → is_plan p ≡ true → 1 ≤ length p.threads
 unfolding is_plan
 some_threads p is = grind (arith, nat_tests)
 
-text_leads : (bytes : List ℕ) (plan : Planned) (es : List Event) → IsTextOf bytes plan es → Leads WantsHeading (journal_lines plan es) (WantsNothing plan es)
+text_leads : (bytes : List ℕ) (plan : Planned) (es : List Event) → IsJournalText bytes plan es → Leads WantsHeading (journal_lines plan es) (WantsNothing plan es)
 text_leads bytes plan es t =
-    let f = plan_facts plan t.text.of_plan in
+    let f = plan_facts plan t.of_plan in
     let head = plan_of plan.members plan.first [] in
     let threads = threads_lead head plan.threads f.fit t.payloads (let l = f.few_calls in omega (arith, l)) (let l = f.few_changes in omega (arith, l)) in
-    let events : Leads (WantsEvents plan) (event_lines es) (WantsEnd plan es) = (event_or_end plan [] (length es), (length es, t.text.few, refl, refl), events_lead plan [] es t.text.fit) in (
+    let events : Leads (WantsEvents plan) (event_lines es) (WantsEnd plan es) = (event_or_end plan [] (length es), (length es, t.few, refl, refl), events_lead plan [] es t.fit) in (
       WantsMembers,
       (refl, refl),
       (
@@ -95,7 +94,7 @@ text_leads bytes plan es t =
           (plan.first, f.first_fits, refl, refl),
           (
             thread_or_events head (length plan.threads),
-            (length plan.threads, some_threads plan t.text.of_plan, (let l = f.few_threads in omega (arith, l)), refl, refl),
+            (length plan.threads, some_threads plan t.of_plan, (let l = f.few_threads in omega (arith, l)), refl, refl),
             leads_append (thread_or_events head (length plan.threads)) (WantsEnd plan es) (WantsNothing plan es) (flat_map thread_lines plan.threads ++ event_lines es) (last_line ∷ [])
                 (leads_append (thread_or_events head (length plan.threads)) (WantsEvents plan) (WantsEnd plan es) (flat_map thread_lines plan.threads) (event_lines es) threads events)
                 (WantsNothing plan es, (refl, refl), refl),
@@ -105,7 +104,7 @@ text_leads bytes plan es t =
     )
 
 -- where a text ends
-text_end : (bytes : List ℕ) (plan : Planned) (es : List Event) → IsTextOf bytes plan es → IsEnd WantsHeading (journal_lines plan es) (WantsNothing plan es) [] bytes
+text_end : (bytes : List ℕ) (plan : Planned) (es : List Event) → IsJournalText bytes plan es → IsEnd WantsHeading (journal_lines plan es) (WantsNothing plan es) [] bytes
 unfolding journal_text
 text_end bytes plan es t =
     let leads = text_leads bytes plan es t in
@@ -113,16 +112,16 @@ text_end bytes plan es t =
       whole = leads_lines WantsHeading (WantsNothing plan es) (journal_lines plan es) tt leads;
       leads = leads;
       stop = λ line more next is e f. f;
-      text = t.text.text ∙ sym (append-nil (text_of (journal_lines plan es)));
+      text = t.text ∙ sym (append-nil (text_of (journal_lines plan es)));
     }
 
-pub one_text : (bytes : List ℕ) (p q : Planned) (es fs : List Event) → IsTextOf bytes p es → IsTextOf bytes q fs → (p ≡ q) × (es ≡ fs)
+pub one_text : (bytes : List ℕ) (p q : Planned) (es fs : List Event) → IsJournalText bytes p es → IsJournalText bytes q fs → (p ≡ q) × (es ≡ fs)
 one_text bytes p q es fs t u =
     let e = one_end WantsHeading (WantsNothing p es) (WantsNothing q fs) (journal_lines p es) (journal_lines q fs) [] [] bytes tt (text_end bytes p es t) (text_end bytes q fs u) in
     let w = e.wanted in
     ((let plan : p ≡ q = cc in plan), (let events : es ≡ fs = cc in events))
 
-pub no_line : (bytes : List ℕ) (plan : Planned) (es : List Event) (number : ℕ) → IsTextOf bytes plan es → IsFirstFault bytes number → ⊥
+pub no_line : (bytes : List ℕ) (plan : Planned) (es : List Event) (number : ℕ) → IsJournalText bytes plan es → IsFirstFault bytes number → ⊥
 no_line bytes plan es number t f =
     let e = one_end WantsHeading (WantsNothing plan es) f.wanted (journal_lines plan es) f.before [] f.rest bytes tt (text_end bytes plan es t) (fault_end bytes number f) in
     let over : [] ≢ [] = subst (λ (r : List ℕ). IsRefused (WantsNothing plan es) r) (sym e.left) (subst (λ (w : Wanted). IsRefused w f.rest) (sym e.wanted) f.refused) in

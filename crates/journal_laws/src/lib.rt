@@ -1,9 +1,11 @@
-//! The answers of a reading of a journal exclude one another: each comes just where its cause holds.
+//! The causes of the answers of a reading of a journal exclude one another: besides want of memory, each answer comes
+//! just where its cause holds.
 #![tactic(auto)]
 
 ghost use Rattle.journal_laws.specs.Laws.{IsAnsweredOneWay, IsReadOneWay, NamesNoEvent, NamesNoLine, NamesOneEvent, NamesOneLine};
 
-/// A text of a journal is read one way.
+/// A text of a journal is read one way: bytes are the text of at most one plan and one list of events, and no line of
+/// them is refused.
 pub fn texts_are_read_one_way()
     ensures one_text { IsReadOneWay }
     ensures no_line { NamesNoLine }
