@@ -1,5 +1,5 @@
 -- The lines of a group in a call that takes a run from a start to a past.
-use Rattle.std.specs.Prelude.{ℕ, false, ◌≡◌, ◌≢◌, ◌⊎◌, ◌+◌, ◌*◌, ◌<◌, ◌≤◌, List, [], ◌++◌, length, slice_get, slice_index_or, Option, Some, None}
+use Rattle.std.specs.Prelude.{ℕ, true, false, ◌≡◌, ◌≢◌, ◌⊎◌, ◌+◌, ◌*◌, ◌<◌, ◌≤◌, List, [], ◌++◌, length, slice_get, slice_index_or, Option, Some, None}
 use Rattle.fifo_net.specs.Net.{IsPrefix}
 use Rattle.upd_base.specs.Edge.{Rose}
 use Rattle.upd_base.specs.Plan.{Planned, bound}
@@ -65,21 +65,22 @@ pub record AreOnTheWay {L : Type 0} (G : Ghosts L) (rules : Rules) (plan : Plann
   pub each : (from to : ℕ) → from < plan.members → to < plan.members
       → HasCome G (received_since rules plan start past from to) (listed (next_frame rules plan past from to)) (line_at plan.members old from to) (line_at plan.members new from to) (state_at plan.members states from to)
 
--- What a call needs of a line to go on with it, after these events: it is there unless its state says otherwise; where it serves, all
--- that was put was got, and it gave no more than so many frames have; it stopped only where the journal has no room.
-abbrev pub IsReadyAt : {L : Type 0} → Ghosts L → Planned → Events → Option L → LineState → Type 0
-IsReadyAt G plan past None Missing = Unit {0}
-IsReadyAt G plan past None state = ⊥
-IsReadyAt G plan past (Some line) Missing = ⊥
-IsReadyAt G plan past (Some line) (Serving count) = IsEven (G.told line) × (count ≤ MAX_FRAME * length past)
-IsReadyAt G plan past (Some line) Down = Unit {0}
-IsReadyAt G plan past (Some line) (Lied lie) = Unit {0}
-IsReadyAt G plan past (Some line) Stopped = length past ≡ bound plan
+-- What a call needs of the line of a link to go on with it, after these events: it is there unless its state says otherwise; where it
+-- serves, all that was put was got, and it gave no more than so many frames have; it stopped only where the journal has no room, or
+-- where the receiver has crashed.
+abbrev pub IsReadyAt : {L : Type 0} → Ghosts L → Rules → Planned → Events → ℕ → Option L → LineState → Type 0
+IsReadyAt G rules plan past to None Missing = Unit {0}
+IsReadyAt G rules plan past to None state = ⊥
+IsReadyAt G rules plan past to (Some line) Missing = ⊥
+IsReadyAt G rules plan past to (Some line) (Serving count) = IsEven (G.told line) × (count ≤ MAX_FRAME * length past)
+IsReadyAt G rules plan past to (Some line) Down = Unit {0}
+IsReadyAt G rules plan past to (Some line) (Lied lie) = Unit {0}
+IsReadyAt G rules plan past to (Some line) Stopped = (length past ≡ bound plan) ⊎ (crashed_in rules plan past to ≡ true)
 
-pub record AreReady {L : Type 0} (G : Ghosts L) (plan : Planned) (past : Events) (lines : List (Option L)) (states : List LineState) : Type 0 where
+pub record AreReady {L : Type 0} (G : Ghosts L) (rules : Rules) (plan : Planned) (past : Events) (lines : List (Option L)) (states : List LineState) : Type 0 where
   pub places : length lines ≡ plan.members * plan.members
   pub stated : length states ≡ length lines
-  pub each : (from to : ℕ) → from < plan.members → to < plan.members → IsReadyAt G plan past (line_at plan.members lines from to) (state_at plan.members states from to)
+  pub each : (from to : ℕ) → from < plan.members → to < plan.members → IsReadyAt G rules plan past to (line_at plan.members lines from to) (state_at plan.members states from to)
 
 -- A line is aside where there is none, where it failed in this call, or where it lied.
 abbrev pub IsAsideLine : {L : Type 0} → Ghosts L → List ℕ → List ℕ → Option L → Option L → Type 0

@@ -20,6 +20,7 @@ pub enum LineState {
     Down,
     /// It has lied.
     Lied(Lie),
-    /// It stopped within a frame, for want of memory or of room in the journal.
+    /// It stopped within or behind a frame that was not received, for want of memory or of room in the journal, or since the receiver
+    /// crashed.
     Stopped,
 }
