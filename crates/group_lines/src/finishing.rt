@@ -47,7 +47,7 @@ pub fn finish_from<O: Ordering, L: Line>(
     lines: Vec<Option<L>>,
     states: Vec<LineState>,
 ) -> Ran<O, L>
-    requires ready { AreReady L.Line (plan_of journal) (past_of journal) lines.items states.items }
+    requires ready { AreReady L.Line (rules_of O.Ordering) (plan_of journal) (past_of journal) lines.items states.items }
     ensures plan { plan_of result.journal ≡ plan_of journal }
     ensures goes_on { GoesOn (past_of journal) (past_of result.journal) }
     ensures lines { (start : Events) (old : List (Option L)) → GoesOn start (past_of journal) → AreOnTheWay L.Line (rules_of O.Ordering) (plan_of journal) start (past_of journal) old lines.items states.items
