@@ -1,0 +1,5 @@
+//! Members as threads.
+#![tactic(auto)]
+
+mod calling;
+mod step;
