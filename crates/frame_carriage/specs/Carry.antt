@@ -1,11 +1,18 @@
 -- Why a frame did not come over a line.
-use Rattle.std.specs.Prelude.{ℕ, Bool, true, false, ◌≡◌, ◌≢◌, ◌<◌, ◌≤◌, List, length, slice_get, Some}
+use Rattle.std.specs.Prelude.{ℕ, false, ◌≡◌, ◌≢◌, ◌<◌, ◌≤◌, List, length, slice_get, Some}
 use Rattle.fifo_net.specs.Net.{IsPrefix}
 use Rattle.upd_base.specs.Edge.{Rose}
+use Rattle.upd_base.specs.declared.edge.EdgeFault.{EdgeFault}
+use Rattle.upd_base.specs.declared.edge.EdgeFault.TheVariants as edge
 use Rattle.upd_lines.specs.Line.{Told}
 use Rattle.frame_carriage.specs.Given.{Gave, GaveExactly}
 use Rattle.frame_carriage.specs.declared.carriage.CarryFault.{CarryFault}
 use Rattle.frame_carriage.specs.declared.carriage.CarryFault.TheVariants.{Down, Lied, NoMemory}
+
+-- what a refused call of the line is told as
+abbrev pub fault_of : EdgeFault → CarryFault
+fault_of edge.Failed = Down
+fault_of edge.NoMemory = NoMemory
 
 -- it gave the beginning of these bytes
 abbrev pub GaveFront : Told → Told → List ℕ → Type 0

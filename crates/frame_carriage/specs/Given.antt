@@ -11,8 +11,8 @@ GaveBytes (Some old) None P = ⊥
 
 -- The line gave so many bytes since then, and where it tells them, they are such. Whether it tells its bytes, and whether
 -- it is faithful, stays.
-pub record Gave (old new : Told) (count : ℕ) (P : List ℕ → Type 0) : Type 0 where
-  pub count : new.got ≡ old.got + count
+pub record Gave (old new : Told) (many : ℕ) (P : List ℕ → Type 0) : Type 0 where
+  pub count : new.got ≡ old.got + many
   pub bytes : GaveBytes old.bytes new.bytes P
   pub faithful : new.faithful ≡ old.faithful
 

@@ -6,4 +6,3 @@ mod limits;
 
 pub use carriage::{Came, CarryFault, MAX_FRAME, PIECE, carry};
 pub use limits::keeps_limits;
-
