@@ -81,7 +81,7 @@ bodies_fit n to (s ∷ sent) h =
     let rest = bodies_fit n to sent (All-tail (λ s. SentFits n s) s sent h) in
     let here = All-head (λ s. SentFits n s) s sent h in
     elim (s.0 == to) as (λ b. All (FrameFits n) (if b then s.1 ∷ bodies_to to sent else bodies_to to sent)) [
-      | true ↦ All-cons (FrameFits n) s.1 (bodies_to to sent) (here.1, here.2) rest
+      | true ↦ All-cons (FrameFits n) s.1 (bodies_to to sent) (here.1, here.2, here.3) rest
       | false ↦ rest
     ]
 

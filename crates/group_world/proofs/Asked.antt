@@ -1,6 +1,6 @@
 -- What an enabled move asks of a member, and what the member may have.
 use Rattle.std.proofs.Common.{ℕ, zero, suc, ◌≡◌, ◌<◌, ◌+◌, ◌&&◌, Bool, true, false, not, List, [], ◌∷◌, length, refl, sym, ◌∙◌, ap, subst, arith, Some, None, Option}
-use Rattle.std.specs.Prelude.{slice_get, All, nat_lt, is_some}
+use Rattle.std.specs.Prelude.{slice_get, All, IfSome, nat_lt, is_some}
 use Rattle.std.proofs.lemmas.Bool.{and_parts}
 use Rattle.std.proofs.lemmas.List.Elements.{All-head}
 use Rattle.std.proofs.lemmas.Option.{slice_get_within}
@@ -69,19 +69,27 @@ received s from to e =
 pub can_be_received : {O : Type 0} (s : Seen O) (from to : ℕ) → CanReceive s from to → can_receive s from to ≡ true
 can_be_received s from to c = rw (true-nat_lt from s.width c.sender, c.found, c.up, c.next) refl
 
+-- The first of what waits on a link fits, as all of it does.
+first_fits : {A : Type 0} (P : A → Type 0) (xs : List A) → All P xs → IfSome (slice_get xs 0) P
+first_fits P [] h = tt
+first_fits P (x ∷ xs) h = All-head P x xs h
+
+pub next_fits : {O : Type 0} (G : Ghosts O) (plan : Planned) (s : Seen O) (from to : ℕ) (next : Option Frame) → IsWorldOf G plan s → from < s.width → to < s.width → next ≡ slice_get (frames_on s from to) 0 → IfSome next (FrameFits plan.members)
+next_fits G plan s from to next w f t e =
+    let P : Option Frame → Type 0 = λ o. IfSome o (FrameFits plan.members) in
+    let sender : from < plan.members = let m = w.width in omega (arith, f, m) in
+    let below : to < plan.members = let m = w.width in omega (arith, t, m) in
+    subst P (sym e) (first_fits (FrameFits plan.members) (frames_on s from to) (w.fits from to sender below))
+
 pub may_take : {O : Type 0} (G : Ghosts O) (plan : Planned) (s : Seen O) (from to : ℕ) (frame : Frame) (k : Kept O) → IsWorldOf G plan s → can_receive s from to ≡ true → slice_get (frames_on s from to) 0 ≡ Some frame → slice_get s.members to ≡ Some k → MayTake k from frame
 may_take G plan s from to frame k w e next found =
     let c = received s from to e in
     let same : c.member ≡ k = let q = sym c.found ∙ found in cc in
     let n : k.members ≡ plan.members = (w.seats to k found).0 in
-    let below : to < plan.members = let l = slice_get_within s.members to k found in let m = w.many in omega arith in
+    let below : to < s.width = let l = slice_get_within s.members to k found in let m = w.many in let d = w.width in omega arith in
     let sender : from < plan.members = let l = c.sender in let m = w.width in omega arith in
-    let fit : FrameFits plan.members frame = first_of (FrameFits plan.members) (frames_on s from to) frame next (w.fits from to sender below) in
+    let fit : FrameFits plan.members frame = next_fits G plan s from to (Some frame) w c.sender below (sym next) in
     record { up = sym (ap (λ j. j.crashed) same) ∙ c.up; from_fits = omega arith; frame_fits = rw n fit.0; frame_counts = fit.1 }
-  where
-    first_of : (P : Frame → Type 0) (frames : List Frame) (frame : Frame) → slice_get frames 0 ≡ Some frame → All P frames → P frame
-    first_of P [] frame e h = absurd (let q : None ≡ Some frame = e in cc)
-    first_of P (x ∷ frames) frame e h = let q : x ≡ frame = cc in subst P q (All-head P x frames h)
 
 -- A release: the member is up, and holds a frame that is ready.
 pub ready_found : {O : Type 0} (o : Option (Kept O)) → is_ready o ≡ true → (k : Kept O) × (o ≡ Some k) × (k.crashed ≡ false) × (is_some (first_ready k.repl.version k.held) ≡ true)

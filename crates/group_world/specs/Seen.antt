@@ -5,6 +5,7 @@ use Rattle.order_trait.specs.declared.ordering.Ordering.{Ghosts}
 use Rattle.upd_base.specs.Body.{BodyFits, is_body}
 use Rattle.upd_base.specs.Plan.{Planned, is_plan, steps_of}
 use Rattle.upd_base.specs.declared.frame.Frame.{Frame}
+use Rattle.upd_base.specs.declared.limits.TheConstants.{MAX_VERSION}
 use Rattle.group_run.specs.Laws.{ServesPlan}
 use Rattle.member_rules.specs.Kept.{Kept, rules_of}
 use Rattle.member_core.specs.Member.{kept_by}
@@ -28,9 +29,9 @@ frames_on s from to = slice_index_or s.waiting (from * s.width + to) []
 abbrev pub made_by : {O : Type 0} → Seen O → ℕ → ℕ
 made_by s thread = slice_index_or s.made thread 0
 
--- a frame that fits n members
+-- a frame that fits n members, of a version that there may be
 abbrev pub FrameFits : ℕ → Frame → Type 0
-FrameFits n frame = BodyFits n frame.body × (is_body frame.body ≡ true)
+FrameFits n frame = BodyFits n frame.body × (is_body frame.body ≡ true) × (frame.version ≤ MAX_VERSION)
 
 -- the fact holds of each element and its place
 abbrev pub EachAt : {A : Type 0} → (ℕ → A → Type 0) → List A → Type 0

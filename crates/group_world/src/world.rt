@@ -1,4 +1,4 @@
-ghost use Rattle.std.specs.Prelude.{ℕ, true, false, Some, None, ◌≡◌, ◌<◌, ◌≤◌, ◌+◌, ◌∷◌, [], List, IfOk, IsTrue, IsSome, is_some, ◌↔◌, map, length, option_copied, slice_get};
+ghost use Rattle.std.specs.Prelude.{ℕ, true, false, Some, None, ◌≡◌, ◌<◌, ◌≤◌, ◌+◌, ◌∷◌, [], List, IfOk, IfSome, IsTrue, IsSome, is_some, ◌↔◌, map, length, option_copied, slice_get};
 ghost use Rattle.upd_base.specs.declared.event.Event.{Event};
 
 use crate::commit::{commit_at, count, place_of, put_on, take_off};
@@ -23,13 +23,13 @@ pub struct World<O: Ordering> {
 }
 
 impl<O: Ordering> World<O> {
-    ghost use Rattle.upd_base.specs.Plan.{planned};
+    ghost use Rattle.upd_base.specs.Plan.{Planned, planned};
     ghost use Rattle.group_run.specs.Run.{Events, next_frame};
     ghost use Rattle.group_run.specs.Laws.{ServesPlan};
     ghost use Rattle.member_rules.specs.Kept.{Kept, rules_of};
     ghost use Rattle.member_core.specs.Member.{kept_by};
     ghost use Rattle.member_core.specs.Prepared.{answer_of};
-    ghost use Rattle.group_world.specs.Seen.{IsWorldOf, seen_by, frames_on, made_by};
+    ghost use Rattle.group_world.specs.Seen.{IsWorldOf, FrameFits, seen_by, frames_on, made_by};
     ghost use Rattle.group_world.specs.Moves.{MayMove, can_receive, is_call_move, is_enabled, is_ready, IsMove, HasThreadOf};
     ghost use Rattle.group_world.specs.Stands.{Stands, IsShort};
     ghost use Rattle.member_core.specs.Input.{MayHave, is_call};
@@ -235,6 +235,7 @@ impl<O: Ordering> World<O> {
         requires from_fits { from < (seen_by self.now).width }
         requires to_fits { to < (seen_by self.now).width }
         ensures value { option_copied result ≡ slice_get (frames_on (seen_by self.now) from to) 0 }
+        ensures fits { (plan : Planned) → IsWorldOf O.Ordering plan (seen_by self.now) → IfSome (option_copied result) (FrameFits plan.members) }
     {
         self.links.next(from, to)
     }

@@ -1,10 +1,11 @@
-ghost use Rattle.std.specs.Prelude.{◌≡◌, ◌≢◌, ◌+◌, ◌-◌, ◌<◌, ◌≤◌, ◌↔◌, ◌++◌, true, false, Some, [], length, IfOk, IfErr, OnOk, OnErr, IsTrue};
+ghost use Rattle.std.specs.Prelude.{◌≡◌, ◌≢◌, ◌+◌, ◌-◌, ◌<◌, ◌≤◌, ◌↔◌, ◌++◌, true, false, Some, [], length, IfOk, IfErr, IfSome, OnOk, OnErr, IsTrue};
 ghost use Rattle.upd_base.specs.Plan.{bound};
 ghost use Rattle.upd_base.specs.declared.event.Event.TheVariants.{Receive, Release};
 ghost use Rattle.upd_base.specs.declared.answer.Answer.TheVariants.{Full};
 ghost use Rattle.member_rules.specs.Kept.{rules_of};
 ghost use Rattle.group_run.specs.Run.{IsRelease};
 ghost use Rattle.group_run.specs.Settled.{IsSettled};
+ghost use Rattle.group_world.specs.Seen.{FrameFits};
 ghost use Rattle.run_journal.specs.Journal.{plan_of, events_of, past_of};
 ghost use Rattle.run_journal.specs.Causes.{open_frame, CallCause, ReceiveCause, ReleaseCause};
 ghost use Rattle.turn_lock.specs.declared.pass.TheConstants.{PARTS};
@@ -106,6 +107,7 @@ impl<O: Ordering> LiveGroup<O> {
         ensures seen { IsPrefix (events_seen pass.old) (events_seen pass.new) }
         ensures unmade { places pass.new ≡ places pass.old }
         ensures frame { IfOk result (λ f. f ≡ open_frame (rules_of O.Ordering) (plan_shared self.now) (past_seen pass.new) from to) }
+        ensures fits { IfOk result (λ f. IfSome f (FrameFits (plan_shared self.now).members)) }
     {
         let journal = self.take_turn(rt, pass);
         let frame = copy_next(alloc, &journal, from, to);
@@ -270,7 +272,8 @@ fn copy_next<O: Ordering>(
 ) -> Result<Option<Frame>, NoMemory>
     requires from_fits { from < (plan_of journal.now).members }
     requires to_fits { to < (plan_of journal.now).members }
-    ensures { IfOk result (λ f. f ≡ open_frame (rules_of O.Ordering) (plan_of journal.now) (past_of journal.now) from to) }
+    ensures value { IfOk result (λ f. f ≡ open_frame (rules_of O.Ordering) (plan_of journal.now) (past_of journal.now) from to) }
+    ensures fits { IfOk result (λ f. IfSome f (FrameFits (plan_of journal.now).members)) }
 {
     match journal.next_frame(from, to) {
         Some(frame) => Ok(Some(frame.copy(alloc)?)),

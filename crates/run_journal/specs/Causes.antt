@@ -3,9 +3,9 @@ use Rattle.std.specs.Prelude.{ℕ, Bool, true, false, ◌≡◌, ◌≢◌, if�
 use Rattle.upd_base.specs.Plan.{Planned, planned, bound}
 use Rattle.upd_base.specs.declared.frame.Frame.{Frame}
 use Rattle.upd_base.specs.declared.event.Event.{Event}
-use Rattle.upd_base.specs.declared.event.Event.TheVariants.{Call as CallEvent, Receive as ReceiveEvent, Release as ReleaseEvent}
+use Rattle.upd_base.specs.declared.event.Event.TheVariants.{Call as CallEvent}
 use Rattle.upd_base.specs.declared.answer.Answer.{Answer}
-use Rattle.upd_base.specs.declared.answer.Answer.TheVariants.{Full, Done}
+use Rattle.upd_base.specs.declared.answer.Answer.TheVariants.{Full}
 use Rattle.upd_base.specs.declared.call.Step.{Step as PlannedStep}
 use Rattle.group_run.specs.Group.{Rules}
 use Rattle.group_run.specs.Answer.{answer}

@@ -5,7 +5,7 @@ ghost use Rattle.upd_base.specs.declared.event.Event.{Event};
 ghost use Rattle.upd_base.specs.declared.event.Event.TheVariants.{Receive, Release};
 ghost use Rattle.member_rules.specs.Kept.{rules_of};
 ghost use Rattle.group_run.specs.Run.{IsGroupRun};
-ghost use Rattle.group_world.specs.Seen.{IsWorldOf, seen_by};
+ghost use Rattle.group_world.specs.Seen.{IsWorldOf, FrameFits, seen_by};
 ghost use Rattle.group_world.specs.Stands.{Stands};
 ghost use Rattle.run_journal.specs.Asked.{AreAsked};
 
@@ -127,7 +127,8 @@ impl<O: Ordering> Journal<O> {
     pub fn next_frame(&self, from: MemberId, to: MemberId) -> Option<&Frame>
         requires from_fits { from < (plan_of self.now).members }
         requires to_fits { to < (plan_of self.now).members }
-        ensures { option_copied result ≡ open_frame (rules_of O.Ordering) (plan_of self.now) (past_of self.now) from to }
+        ensures value { option_copied result ≡ open_frame (rules_of O.Ordering) (plan_of self.now) (past_of self.now) from to }
+        ensures fits { IfSome (option_copied result) (FrameFits (plan_of self.now).members) }
     {
         if self.crashed(to) {
             return None;

@@ -9,7 +9,7 @@ use Rattle.run_journal.proofs.journal.Journal.receive.Goals as goal
 pub advance-requires-clause-enabled : goal.advance-requires-clause-enabled
 advance-requires-clause-enabled g c = λ κs lives.
     let j = c.args.self.now in
-    may_receive g.O.Ordering (plan_of j) (seen_by j.world) (past_of j) c.args.from c.args.to c.in-Some.sent.now j.of_plan j.stands c.requires.from_fits c.requires.to_fits (sym c.in-Some.ensures)
+    may_receive g.O.Ordering (plan_of j) (seen_by j.world) (past_of j) c.args.from c.args.to c.in-Some.sent.now j.of_plan j.stands c.requires.from_fits c.requires.to_fits (sym c.in-Some.ensures.value)
 
 pub invariant_of-self : goal.invariant_of-self
 invariant_of-self g c =
