@@ -1,12 +1,12 @@
 -- What a worker knows of the places of its own events.
-use Rattle.std.specs.Prelude.{ℕ, ◌≡◌, ◌+◌, ◌*◌, List, [], Option, Some, slice_get, All}
+use Rattle.std.specs.Prelude.{ℕ, ◌≡◌, ◌+◌, ◌*◌, ◌≤◌, List, [], Option, Some, slice_get, All}
 use Rattle.upd_base.specs.Plan.{Planned}
 use Rattle.upd_base.specs.declared.event.Event.{Event}
 use Rattle.upd_base.specs.declared.event.Event.TheVariants.{Call as CallEvent}
 use Rattle.upd_base.specs.declared.answer.Answer.TheVariants.{Full}
 use Rattle.group_run.specs.Group.{Rules}
 use Rattle.turn_lock.specs.Lists.{IsPrefix}
-use Rattle.member_threads.specs.Brought.{frame_at}
+use Rattle.member_threads.specs.Brought.{brought, frame_at}
 
 -- each of these places is such, whatever events come behind those that were seen
 abbrev pub AllAre : List Event → List ℕ → (List Event → ℕ → Type 0) → Type 0
@@ -23,3 +23,9 @@ pub record KeepsTo (rules : Rules) (plan : Planned) (mine : ℕ → Type 0) (eve
 pub record Knows (rules : Rules) (plan : Planned) (began : List Event) (mine : ℕ → Type 0) (seen : List Event) (own : List ℕ) : Type 0 where
   pub goes_on : IsPrefix began seen
   pub keeps : AllAre seen own (KeepsTo rules plan mine)
+
+-- What was brought on a link stays, and no place that brings something there comes to the own ones.
+pub record BringsNoMore (rules : Rules) (plan : Planned) (from to : ℕ) (seen : List Event) (own : List ℕ) (seen' : List Event) (own' : List ℕ) : Type 0 where
+  pub goes_on : IsPrefix seen seen'
+  pub same : (events : List Event) → IsPrefix seen' events → brought rules plan events own' from to ≡ brought rules plan events own from to
+  pub older : (events : List Event) (low : ℕ) → IsPrefix seen' events → All (λ place. low ≤ place → frame_at rules plan events from to place ≡ []) own → All (λ place. low ≤ place → frame_at rules plan events from to place ≡ []) own'
