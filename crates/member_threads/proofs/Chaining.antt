@@ -1,5 +1,5 @@
 -- What a chain of workers brings back.
-use Rattle.std.proofs.Common.{◌≡◌, ◌≢◌, ℕ, zero, suc, ◌+◌, ◌*◌, ◌<◌, ◌≤◌, Bool, true, false, List, [], ◌∷◌, ◌++◌, length, set, refl, sym, ap, ◌∙◌, subst, arith, Option, Some, None, get_or, lt_of_not-le}
+use Rattle.std.proofs.Common.{◌≡◌, ◌≢◌, ℕ, suc, ◌+◌, ◌*◌, ◌<◌, ◌≤◌, Bool, true, List, [], length, set, refl, sym, ap, ◌∙◌, subst, arith, Option, Some, None, lt_of_not-le}
 use native.Mathlib.Decide.{dec_le, ℕ_discrete}
 use Rattle.std.specs.Prelude.{All, slice_index_or}
 use Rattle.std.proofs.lemmas.List.{append-nil, get_or-set_same, get_or-set_other, length-set}
@@ -12,10 +12,9 @@ use Rattle.turn_lock.specs.Places.{Ascends, merged}
 use Rattle.turn_lock.proofs.Lists.{IsPrefix-self, IsPrefix-trans}
 use Rattle.upd_lines.specs.declared.line.Line.{Ghosts}
 use Rattle.line_rules.specs.Lines.{IsEvenLine, line_at, state_at}
-use Rattle.line_rules.specs.LineState.{HasCome}
 use Rattle.line_rules.specs.declared.line_state.LineState.{LineState}
 use Rattle.line_rules.specs.declared.line_state.LineState.TheVariants.{Missing}
-use Rattle.member_threads.specs.Brought.{brought, frame_at}
+use Rattle.member_threads.specs.Brought.{frame_at}
 use Rattle.member_threads.specs.Knows.{KeepsTo, Knows, BringsNoMore}
 use Rattle.member_threads.specs.Worked.{Worked, AreWorked}
 use Rattle.member_threads.proofs.Places.{All-imply, flat_map-none}

@@ -1,14 +1,13 @@
 -- What the workers leave, where the journal has just the events that they made.
-use Rattle.std.proofs.Common.{◌≡◌, ◌≢◌, ℕ, zero, suc, ◌-◌, ◌+◌, ◌*◌, ◌<◌, ◌≤◌, ◌⊎◌, inl, inr, Bool, true, false, List, [], ◌∷◌, ◌++◌, length, refl, sym, ap, ◌∙◌, subst, append_assoc, length-append, arith, Option, Some, None, lt_of_not-le}
+use Rattle.std.proofs.Common.{◌≡◌, ℕ, zero, suc, ◌-◌, ◌+◌, ◌*◌, ◌<◌, ◌≤◌, ◌⊎◌, inl, inr, Bool, true, false, List, [], ◌∷◌, ◌++◌, length, refl, sym, ap, ◌∙◌, subst, append_assoc, length-append, arith, Option, Some, None, lt_of_not-le}
 use native.Mathlib.Decide.{dec_le}
-use Rattle.std.specs.Prelude.{All, reverse, slice_get}
+use Rattle.std.specs.Prelude.{All, reverse}
 use Rattle.std.proofs.lemmas.List.Elements.{All-head, All-tail}
 use Rattle.std.proofs.lemmas.List.{append-nil, length-reverse, reverse-append, reverse-reverse}
 use Rattle.upd_base.specs.Plan.{Planned, bound}
 use Rattle.upd_base.specs.declared.frame.Frame.{Frame}
 use Rattle.upd_base.specs.declared.event.Event.{Event}
 use Rattle.upd_base.specs.declared.event.Event.TheVariants.{Call as CallEvent, Receive, Release}
-use Rattle.upd_base.specs.declared.answer.Answer.{Answer}
 use Rattle.upd_base.specs.declared.answer.Answer.TheVariants.{Accepted, Done, Full, Crashed, VersionLimit, BadKind, BadMember}
 use Rattle.group_run.specs.Group.{Rules}
 use Rattle.group_run.specs.Run.{Events, crashed_in, next_frame}
@@ -18,12 +17,11 @@ use Rattle.run_journal.specs.declared.faults.ReceiveFault.TheVariants as receipt
 use Rattle.turn_lock.specs.Lists.{IsPrefix}
 use Rattle.turn_lock.specs.Places.{places_from, new_places}
 use Rattle.turn_lock.proofs.Lists.{IsPrefix-trans, IsPrefix-length}
-use Rattle.upd_lines.specs.Line.{Told}
 use Rattle.upd_lines.specs.declared.line.Line.{Ghosts}
 use Rattle.line_rules.specs.Received.{GoesOn, listed, received, received_since, taken_by}
 use Rattle.line_rules.specs.Lines.{AreOnTheWay, AreReady, IsReadyAt, line_at, state_at}
 use Rattle.line_rules.specs.Rest.{FullAtRestBut, FullOnlyAtRestBut, GoesOnFullAtRestBut}
-use Rattle.line_rules.specs.LineState.{HasCome, IsAt}
+use Rattle.line_rules.specs.LineState.{HasCome}
 use Rattle.line_rules.specs.declared.line_state.LineState.{LineState}
 use Rattle.line_rules.specs.declared.line_state.LineState.TheVariants.{Missing, Serving, Down, Lied, Stopped}
 use Rattle.line_rules.specs.declared.line_state.TheConstants.{MAX_FRAME}

@@ -1,13 +1,10 @@
 -- What places bring: all new places bring what was received since the start.
-use Rattle.std.proofs.Common.{◌≡◌, ℕ, zero, suc, ◌-◌, ◌+◌, ◌<◌, ◌≤◌, List, [], ◌∷◌, ◌++◌, length, take, refl, sym, ap, ◌∙◌, subst, arith, append_assoc, length-append, Option, Some, None}
-use Rattle.std.specs.Prelude.{All, reverse, slice_get}
-use Rattle.std.specs.List.{flat_map}
-use Rattle.std.proofs.lemmas.Grind.{flat_map-append}
+use Rattle.std.proofs.Common.{◌≡◌, ℕ, zero, suc, ◌-◌, ◌+◌, List, [], ◌∷◌, ◌++◌, length, take, refl, sym, ap, ◌∙◌, arith, append_assoc, length-append, Some}
+use Rattle.std.specs.Prelude.{reverse, slice_get}
 use Rattle.std.proofs.lemmas.List.{append-nil, length-reverse, reverse-append, reverse-reverse}
 use Rattle.std.proofs.Math.Seq.{take-append_seam}
 use Rattle.fifo_net.proofs.Lists.{flat_map_push}
 use Rattle.upd_base.specs.Plan.{Planned}
-use Rattle.upd_base.specs.declared.frame.Frame.{Frame}
 use Rattle.upd_base.specs.declared.event.Event.{Event}
 use Rattle.group_run.specs.Group.{Rules}
 use Rattle.group_run.specs.Run.{Events}

@@ -2,7 +2,7 @@
 use Rattle.std.proofs.Common.{◌≡◌, ℕ, ◌+◌, ◌*◌, List, [], ◌∷◌, ◌++◌, length, refl, sym, ap, ◌∙◌, subst, append_assoc, Option, Some, None, Bool, true, false, Result, Ok, Err, ◌≢◌}
 use Rattle.std.specs.Prelude.{All, reverse, slice_get, IfOk, OnOk, OnErr, IsTrue}
 use Rattle.std.proofs.lemmas.List.Elements.{All-nil, All-cons, All-append}
-use Rattle.std.proofs.lemmas.List.{append-nil, length-reverse, reverse-append, reverse-reverse}
+use Rattle.std.proofs.lemmas.List.{length-reverse, reverse-append, reverse-reverse}
 use Rattle.upd_base.specs.Plan.{Planned}
 use Rattle.upd_base.specs.declared.event.Event.{Event}
 use Rattle.upd_base.specs.declared.event.Event.TheVariants.{Call as CallEvent, Receive, Release}
@@ -11,7 +11,6 @@ use Rattle.upd_base.specs.declared.answer.Answer.TheVariants.{Full}
 use Rattle.upd_base.specs.declared.call.Step.{Step as PlannedStep}
 use Rattle.group_run.specs.Group.{Rules}
 use Rattle.group_run.specs.Run.{Events}
-use Rattle.group_run.proofs.Lists.{same_or}
 use Rattle.run_journal.specs.Causes.{IsMade, call_event, next_call}
 use Rattle.run_journal.specs.declared.faults.CallFault.{CallFault}
 use Rattle.run_journal.specs.declared.faults.ReceiveFault.{ReceiveFault}
@@ -25,12 +24,12 @@ use Rattle.live_group.specs.Calls.{IfAnswered, UnlessAnswered, next_event}
 use Rattle.live_group.specs.Pass.{events_seen, past_before, places}
 use Rattle.live_group.specs.Turns.{MakesOne}
 use Rattle.turn_lock.specs.Lists.{IsPrefix}
-use Rattle.turn_lock.specs.Places.{Ascends, merged}
+use Rattle.turn_lock.specs.Places.{merged}
 use Rattle.turn_lock.proofs.Lists.{IsPrefix-trans}
 use Rattle.line_rules.specs.Received.{taken_by}
 use Rattle.line_rules.proofs.Receiving.{taken_elsewhere}
 use Rattle.member_threads.specs.Brought.{frame_at}
-use Rattle.member_threads.specs.Knows.{AllAre, KeepsTo, Knows}
+use Rattle.member_threads.specs.Knows.{KeepsTo, Knows}
 use Rattle.member_threads.proofs.Places.{All-imply, All-merged}
 use Rattle.member_threads.proofs.Frames.{event_seam, frame_new}
 

@@ -1,8 +1,8 @@
 -- Lines at the start of a run, on which all that was put was got.
-use Rattle.std.proofs.Common.{◌≡◌, ℕ, ◌*◌, ◌<◌, ◌≤◌, ◌+◌, List, [], ◌∷◌, length, map, refl, sym, ap, ◌∙◌, subst, arith, Option, Some, None, get_or, lt_of_not-le}
+use Rattle.std.proofs.Common.{◌≡◌, ℕ, ◌*◌, ◌≤◌, ◌+◌, List, [], length, map, refl, sym, subst, arith, Option, Some, None, lt_of_not-le}
 use native.Mathlib.Decide.{dec_le}
 use Rattle.std.specs.Prelude.{All, slice_index_or}
-use Rattle.std.proofs.lemmas.List.{append-nil, length-map}
+use Rattle.std.proofs.lemmas.List.{length-map}
 use Rattle.std.proofs.lemmas.List.Elements.{All-get_or}
 use Rattle.std.proofs.Math.ListN.{get_or-map, get_or-eq_default}
 use Rattle.upd_base.specs.Plan.{Planned}
@@ -10,9 +10,9 @@ use Rattle.upd_base.specs.declared.frame.Frame.{Frame}
 use Rattle.group_run.specs.Group.{Rules}
 use Rattle.group_run.specs.Run.{Events, next_frame}
 use Rattle.upd_lines.specs.declared.line.Line.{Ghosts}
-use Rattle.line_rules.specs.Received.{listed, received_since}
+use Rattle.line_rules.specs.Received.{listed}
 use Rattle.line_rules.specs.LineState.{HasCome}
-use Rattle.line_rules.specs.Lines.{AreOnTheWay, ComeBack, IsEvenLine, line_at, state_at}
+use Rattle.line_rules.specs.Lines.{ComeBack, IsEvenLine, line_at, state_at}
 use Rattle.line_rules.specs.declared.line_state.LineState.{LineState}
 use Rattle.line_rules.specs.declared.line_state.LineState.TheVariants.{Missing, Serving}
 use Rattle.line_rules.proofs.Receiving.{received_none}

@@ -1,8 +1,8 @@
 -- What became of a step.
-use Rattle.std.proofs.Common.{◌≡◌, ◌≢◌, Bool, true, false, refl}
+use Rattle.std.proofs.Common.{◌≡◌, ◌≢◌, refl}
 use Rattle.member_threads.specs.declared.step.Step.{Step}
 use Rattle.member_threads.specs.declared.step.Step.TheVariants.{Went, Nothing, Ended, Wanted}
-use Rattle.member_threads.specs.Group.{IfWent, UnlessWent, wants}
+use Rattle.member_threads.specs.Group.{IfWent, UnlessWent}
 
 pub if_unmade : (P : Type 0) (s : Step) → s ≢ Went → IfWent s P
 if_unmade P Went other = absurd (other refl)

@@ -1,17 +1,15 @@
 -- How what is known of a line's way stays, and goes on by a frame.
-use Rattle.std.proofs.Common.{◌≡◌, ◌≢◌, ℕ, zero, suc, ◌+◌, ◌*◌, ◌<◌, ◌≤◌, ◌⊎◌, inl, inr, Bool, true, false, List, [], ◌∷◌, ◌++◌, length, refl, sym, ap, ◌∙◌, subst, append_assoc, arith, Option, Some, None, Result, Ok, Err}
-use Rattle.std.specs.Prelude.{All, if◌then◌else◌, reverse, slice_get, IfOk, OnOk, OnErr, IsTrue}
-use Rattle.std.specs.List.{flat_map}
+use Rattle.std.proofs.Common.{◌≡◌, ℕ, suc, ◌+◌, ◌*◌, ◌<◌, ◌≤◌, ◌⊎◌, inl, inr, Bool, true, false, List, [], ◌∷◌, ◌++◌, length, refl, sym, ap, ◌∙◌, subst, append_assoc, arith, Option, Some, None, Result, Ok, Err}
+use Rattle.std.specs.Prelude.{All, if◌then◌else◌, reverse, IfOk, OnErr, IsTrue}
 use Rattle.std.proofs.lemmas.List.Elements.{All-nil, All-cons, All-append}
 use Rattle.std.proofs.lemmas.Grind.{flat_map-append}
 use Rattle.upd_frame.specs.Spelling.{spelling}
-use Rattle.std.proofs.lemmas.List.{append-nil, length-reverse, reverse-append, reverse-reverse}
-use Rattle.std.proofs.Math.Nat.{mul-le-mul_left}
+use Rattle.std.proofs.lemmas.List.{append-nil, length-reverse, reverse-reverse}
 use Rattle.upd_base.specs.Plan.{Planned, bound, is_plan}
 use Rattle.run_journal.proofs.Bounds.{bound-le}
 use Rattle.upd_base.specs.declared.frame.Frame.{Frame}
 use Rattle.upd_base.specs.declared.event.Event.{Event}
-use Rattle.upd_base.specs.declared.event.Event.TheVariants.{Call as CallEvent, Receive, Release}
+use Rattle.upd_base.specs.declared.event.Event.TheVariants.{Receive, Release}
 use Rattle.group_run.specs.Group.{Rules}
 use Rattle.group_run.specs.Run.{Events, next_frame, crashed_in}
 use Rattle.run_journal.specs.Causes.{ReceiveCause, open_frame}
@@ -30,14 +28,14 @@ use Rattle.upd_lines.specs.Line.{Told, Carried}
 use Rattle.upd_lines.specs.declared.line.Line.{Ghosts}
 use Rattle.line_rules.specs.Received.{bytes_of, listed, taken_by}
 use Rattle.line_rules.specs.Given.{GaveBytes, GaveExactly, IsEven}
-use Rattle.line_rules.specs.LineState.{HasCome, IsAt, IsServing, IsSetAside}
+use Rattle.line_rules.specs.LineState.{IsAt, IsServing, IsSetAside}
 use Rattle.line_rules.specs.declared.line_state.LineState.{LineState}
 use Rattle.line_rules.specs.declared.line_state.LineState.TheVariants.{Missing, Serving, Down, Lied, Stopped}
 use Rattle.line_rules.specs.declared.line_state.TheConstants.{MAX_FRAME}
 use Rattle.line_rules.proofs.Receiving.{taken_there}
 use Rattle.member_threads.specs.Brought.{brought, frame_at}
 use Rattle.member_threads.specs.Knows.{BringsNoMore}
-use Rattle.member_threads.specs.Worked.{Awaits, IsRefused, IsHalted, Rests, Worked}
+use Rattle.member_threads.specs.Worked.{Awaits, IsRefused, Rests, Worked}
 use Rattle.member_threads.proofs.Places.{All-imply, All-below, All-merged, merged_none, none_merged}
 use Rattle.member_threads.proofs.Frames.{brought_push, frame_new}
 use Rattle.member_threads.proofs.Knowing.{last_event}

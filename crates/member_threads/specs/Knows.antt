@@ -1,5 +1,5 @@
 -- What a worker knows of the places of its own events.
-use Rattle.std.specs.Prelude.{ℕ, ◌≡◌, ◌+◌, ◌*◌, ◌≤◌, List, [], Option, Some, slice_get, All}
+use Rattle.std.specs.Prelude.{ℕ, ◌≡◌, ◌+◌, ◌*◌, ◌≤◌, List, [], Some, slice_get, All}
 use Rattle.upd_base.specs.Plan.{Planned}
 use Rattle.upd_base.specs.declared.event.Event.{Event}
 use Rattle.upd_base.specs.declared.event.Event.TheVariants.{Call as CallEvent}

@@ -2,7 +2,7 @@ use Rattle.std.proofs.Common.{sym, subst}
 use Rattle.run_journal.specs.Journal.{events_of}
 use Rattle.member_rules.specs.Kept.{rules_of}
 use Rattle.live_group.specs.Group.{shared, plan_shared}
-use Rattle.live_group.specs.Pass.{events_seen, places}
+use Rattle.live_group.specs.Pass.{events_seen}
 use Rattle.member_threads.specs.Knows.{Knows}
 use Rattle.member_threads.proofs.Knowing.{knows_joined}
 use Rattle.member_threads.proofs.chains.+call_threads+fn-call_threads-join+arg3.Goals as goal

@@ -1,13 +1,11 @@
-use Rattle.std.proofs.Common.{ℕ, ◌≡◌, ◌≤◌, ◌<◌, ◌+◌, ◌*◌, ◌∙◌, None, Some, true, rules, refl, sym, ap, subst, arith, length}
+use Rattle.std.proofs.Common.{◌≡◌, ◌≤◌, ◌<◌, ◌+◌, ◌*◌, ◌∙◌, None, Some, true, rules, refl, sym, ap, subst, arith, length}
 use Rattle.turn_lock.specs.Lists.{IsPrefix}
 use Rattle.turn_lock.specs.Pass.{parts}
 use Rattle.upd_base.proofs.PlanFacts.{plan_facts}
 use Rattle.line_rules.specs.declared.line_state.LineState.TheVariants.{Missing}
 use Rattle.live_group.specs.Group.{shared, plan_shared}
-use Rattle.live_group.specs.Pass.{events_seen, places}
+use Rattle.live_group.specs.Pass.{events_seen}
 use Rattle.run_journal.specs.Journal.{events_of}
-use Rattle.member_rules.specs.Kept.{rules_of}
-use Rattle.member_threads.specs.Worked.{Worked}
 use Rattle.member_threads.proofs.Knowing.{knows_wider}
 use Rattle.member_threads.proofs.Chaining.{even_at, fresh_pass, knows_both, may_go_on, worked_joined, worked_missing, worked_none, worked_others, worked_put}
 use Rattle.member_threads.proofs.chains.+fn-serve_links-join+arg3+serve_links.Goals as goal

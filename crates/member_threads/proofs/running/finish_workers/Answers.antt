@@ -1,4 +1,3 @@
-use Rattle.std.proofs.Common.{refl}
 use Rattle.group_lines.proofs.Ends.{come_back}
 use Rattle.group_lines.proofs.Going.{full_wider}
 use Rattle.member_threads.proofs.running.finish_workers.Goals as goal

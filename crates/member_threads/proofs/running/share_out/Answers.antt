@@ -1,4 +1,4 @@
-use Rattle.std.proofs.Common.{◌≡◌, ◌∙◌, ◌≤◌, ap, subst, length, arith}
+use Rattle.std.proofs.Common.{◌∙◌, ◌≤◌, ap, subst, length, arith}
 use Rattle.upd_base.specs.Plan.{Planned, bound}
 use Rattle.member_rules.specs.Kept.{rules_of}
 use Rattle.run_journal.specs.Journal.{plan_of, past_of}

@@ -1,7 +1,6 @@
 use Rattle.std.proofs.Common.{false, true, refl, inl, inr, subst}
 use Rattle.turn_lock.proofs.Lists.{IsPrefix-self}
-use Rattle.live_group.specs.Group.{plan_shared}
-use Rattle.live_group.specs.Pass.{events_seen, past_before, places}
+use Rattle.live_group.specs.Pass.{past_before}
 use Rattle.member_threads.specs.Group.{HasWorked, wants}
 use Rattle.member_threads.proofs.Steps.{was_unmade}
 use Rattle.member_threads.proofs.Working.{few_left, worked_aside, worked_more_at, worked_refused_at}

@@ -1,8 +1,7 @@
-use Rattle.std.proofs.Common.{ℕ, ◌≡◌, ◌+◌, ◌*◌, refl}
+use Rattle.std.proofs.Common.{ℕ, ◌≡◌, ◌+◌, ◌*◌}
 use Rattle.live_group.specs.Group.{plan_shared}
-use Rattle.turn_lock.proofs.Lists.{IsPrefix-self}
 use Rattle.member_threads.proofs.Knowing.{knows_freed}
-use Rattle.member_threads.proofs.Working.{none_freed, none_still}
+use Rattle.member_threads.proofs.Working.{none_freed}
 use Rattle.member_threads.proofs.serving.release_own.Goals as goal
 
 pub returns-in-Ok-true-clause-pass : goal.returns-in-Ok-true-clause-pass

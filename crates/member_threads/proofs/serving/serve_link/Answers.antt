@@ -1,4 +1,4 @@
-use Rattle.std.proofs.Common.{ℕ, ◌≡◌, ◌+◌, ◌*◌, ◌∙◌, false, true, refl, arith}
+use Rattle.std.proofs.Common.{◌∙◌, false, refl, arith}
 use Rattle.turn_lock.proofs.Lists.{IsPrefix-self, IsPrefix-trans}
 use Rattle.member_threads.proofs.Working.{worked_start}
 use Rattle.member_threads.proofs.serving.serve_link.Goals as goal

@@ -1,4 +1,4 @@
-use Rattle.std.proofs.Common.{ℕ, ◌≡◌, ◌+◌, ◌*◌, false, true, ◌∙◌}
+use Rattle.std.proofs.Common.{ℕ, ◌≡◌, ◌+◌, ◌*◌, false, ◌∙◌}
 use Rattle.turn_lock.proofs.Lists.{IsPrefix-trans}
 use Rattle.live_group.specs.Group.{plan_shared}
 use Rattle.member_threads.specs.Group.{wants}
