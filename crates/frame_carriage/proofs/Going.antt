@@ -10,7 +10,7 @@ use Rattle.upd_base.specs.Edge.{Rose, HasCause}
 use Rattle.upd_base.specs.declared.edge.EdgeFault.{EdgeFault}
 use Rattle.upd_base.specs.declared.edge.EdgeFault.TheVariants as edge
 use Rattle.upd_lines.specs.Line.{Told, Carried, IsSound, after_put, after_get, with_put, with_got}
-use Rattle.frame_carriage.specs.Given.{Gave, GaveBytes, GaveExactly, IsEven}
+use Rattle.line_rules.specs.Given.{Gave, GaveBytes, GaveExactly, IsEven}
 use Rattle.frame_carriage.specs.declared.carriage.CarryFault.{CarryFault}
 use Rattle.frame_carriage.specs.Carry.{GaveFront, GaveAnother, CarryCause, fault_of}
 

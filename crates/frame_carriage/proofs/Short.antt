@@ -15,7 +15,7 @@ use Rattle.upd_base.specs.declared.body.Body.TheVariants.{Ask, Ord, Req, Ack, Rb
 use Rattle.upd_base.specs.declared.frame.Frame.{Frame}
 use Rattle.upd_base.specs.declared.limits.TheConstants.{MAX_PAYLOAD, MAX_BATCH}
 use Rattle.upd_frame.specs.Spelling.{digits, kind_bytes, item_bytes, batch_bytes, body_bytes, spelling, IsItem, IsBatch, IsBody, IsFrame}
-use Rattle.frame_carriage.specs.declared.carriage.TheConstants.{MAX_FRAME}
+use Rattle.line_rules.specs.declared.line_state.TheConstants.{MAX_FRAME}
 
 one : (n : ℕ) → length (digits w8 n) ≡ 1
 unfolding digits

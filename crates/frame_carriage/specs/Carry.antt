@@ -5,7 +5,7 @@ use Rattle.upd_base.specs.Edge.{Rose}
 use Rattle.upd_base.specs.declared.edge.EdgeFault.{EdgeFault}
 use Rattle.upd_base.specs.declared.edge.EdgeFault.TheVariants as edge
 use Rattle.upd_lines.specs.Line.{Told}
-use Rattle.frame_carriage.specs.Given.{Gave, GaveExactly}
+use Rattle.line_rules.specs.Given.{Gave, GaveExactly}
 use Rattle.frame_carriage.specs.declared.carriage.CarryFault.{CarryFault}
 use Rattle.frame_carriage.specs.declared.carriage.CarryFault.TheVariants.{Down, Lied, NoMemory}
 

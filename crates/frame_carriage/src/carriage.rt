@@ -1,6 +1,7 @@
 ghost use Rattle.std.specs.Prelude.{◌≡◌, ◌≢◌, ◌≤◌, ◌<◌, IfOk, IfErr, IfSome, IfNone, OnOk, length, take, slice_index};
 ghost use Rattle.upd_frame.specs.Spelling.{IsFrame, spelling};
-ghost use Rattle.frame_carriage.specs.Given.{GaveExactly, IsEven};
+ghost use Rattle.line_rules.specs.declared.line_state.TheConstants.{MAX_FRAME};
+ghost use Rattle.line_rules.specs.Given.{GaveExactly, IsEven};
 ghost use Rattle.frame_carriage.specs.Carry.{CarryCause, fault_of};
 ghost use Rattle.frame_carriage.specs.declared.carriage.CarryFault.TheVariants.{NoMemory};
 
@@ -8,9 +9,6 @@ use std::alloc::{AllocError, Global};
 use upd_base::{EdgeFault, Frame};
 use upd_frame::{FrameFault, decode, encode};
 use upd_lines::Line;
-
-/// How many bytes a frame has at most: an estimate of 32 messages of 256 bytes.
-pub const MAX_FRAME: usize = 8_476;
 
 /// How many bytes of a frame are put at once at most, before they are got back.
 pub const PIECE: usize = 4_096;

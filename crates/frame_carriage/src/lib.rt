@@ -4,5 +4,5 @@
 mod carriage;
 mod limits;
 
-pub use carriage::{Came, CarryFault, MAX_FRAME, PIECE, carry};
+pub use carriage::{Came, CarryFault, PIECE, carry};
 pub use limits::keeps_limits;

@@ -5,10 +5,10 @@ ghost use Rattle.upd_frame.specs.Spelling.{IsFrame};
 ghost use Rattle.line_rules.specs.declared.line_state.TheConstants.{MAX_FRAME};
 ghost use Rattle.line_rules.specs.Given.{IsEven};
 ghost use Rattle.line_rules.specs.LineState.{IsAt, IsInService, IsSetAside, IsServing};
-ghost use Rattle.line_rules.specs.declared.line_state.LineState.TheVariants.{Serving, Stopped};
+ghost use Rattle.line_rules.specs.declared.line_state.LineState.TheVariants.{Missing, Serving, Stopped};
 
-use line_rules::{Lie, LineState};
 use frame_carriage::{CarryFault, carry};
+use line_rules::{Lie, LineState};
 use std::alloc::Global;
 use upd_base::{Frame, NoMemory};
 use upd_lines::Line;
@@ -28,7 +28,10 @@ pub fn bring<L: Line>(
     requires few { count + MAX_FRAME < 2 ^ 64 }
     ensures same { IfOk result (λ came. IfSome came (λ f. f ≡ frame.now)) }
     ensures whole { IfOk result (λ came. OnSome came ((old : Told) (before : ℕ) (frames : List Frame) → IsServing frames old (L.told line.old) count → IsAt (frames ++ frame.now ∷ []) [] old (L.told line.new) before (L.faults line.new) state.new)) }
+    ensures even { IfOk result (λ came. OnSome came (IsEven (L.told line.new))) }
+    ensures counted { IfOk result (λ came. OnSome came ((bytes : ℕ) × (bytes ≤ MAX_FRAME) × (state.new ≡ Serving (count + bytes)))) }
     ensures serves { IfOk result (λ came. OnSome came (IsInService state.new)) }
+    ensures there { state.new ≡ Missing → ⊥ }
     ensures set_aside { IfOk result (λ came. IfNone came (IsSetAside state.new)) }
     ensures stopped { OnErr result (state.new ≡ Stopped) }
     ensures part { IfOk result (λ came. IfNone came ((old : Told) (before : ℕ) (frames : List Frame) → before ≤ L.faults line.old → IsServing frames old (L.told line.old) count → IsAt frames (frame.now ∷ []) old (L.told line.new) before (L.faults line.new) state.new)) }

@@ -1,4 +1,4 @@
-ghost use Rattle.std.specs.Prelude.{ℕ, ◌≡◌, ◌*◌, ◌<◌, List, Option, length, All};
+ghost use Rattle.std.specs.Prelude.{ℕ, ◌≡◌, ◌*◌, ◌<◌, List, Option, length, map, All, IfOk};
 ghost use Rattle.member_rules.specs.Kept.{rules_of};
 ghost use Rattle.group_run.specs.Run.{Events};
 ghost use Rattle.run_journal.specs.Journal.{plan_of, past_of};
@@ -6,13 +6,17 @@ ghost use Rattle.line_rules.specs.Received.{GoesOn};
 ghost use Rattle.line_rules.specs.Lines.{AreOnTheWay, AreReady, ComeBack, IsAside, IsEvenLine};
 ghost use Rattle.line_rules.specs.Rest.{GoesOnFullAtRestBut};
 ghost use Rattle.line_rules.specs.Ends.{EndsRun};
+ghost use Rattle.group_lines.specs.Visits.{Went};
+ghost use Rattle.group_lines.specs.Told.{TellsEnd, first_state};
 
-use line_rules::LineState;
+use crate::ending::end_of;
 use crate::ran::Ran;
-use line_rules::RunEnd;
+use crate::rounds::run_rounds;
+use line_rules::{LineState, RunEnd};
 use order_trait::Ordering;
 use run_journal::Journal;
-use std::alloc::Global;
+use std::alloc::{AllocError, Global};
+use upd_base::NoMemory;
 use upd_lines::Line;
 
 /// Makes what remains of a run on one thread, by rounds: each thread makes its next call unless that would be answered as full; on each
@@ -32,11 +36,29 @@ pub fn finish<O: Ordering, L: Line>(
     ensures end { EndsRun L.Line (rules_of O.Ordering) (plan_of journal) (past_of journal) (past_of result.journal) lines.items result.lines.items result.end }
     ensures full { GoesOnFullAtRestBut (IsAside L.Line (rules_of O.Ordering) (plan_of journal) (past_of journal) (past_of result.journal) lines.items result.lines.items) (rules_of O.Ordering) (plan_of journal) (past_of journal) (past_of result.journal) }
 {
-    let _ = alloc;
-    Ran {
-        journal,
-        lines,
-        end: RunEnd::NoMemory,
+    match states_of(alloc, lines.as_slice()) {
+        Ok(states) => finish_from(alloc, journal, lines, states),
+        Err(_) => Ran {
+            journal,
+            lines,
+            end: RunEnd::NoMemory,
+        },
+    }
+}
+
+/// The states of lines that no frame came over yet.
+fn states_of<L>(alloc: Global, lines: &[Option<L>]) -> Result<Vec<LineState>, AllocError>
+    ensures { IfOk result (λ states. states.items ≡ map first_state lines.now) }
+{
+    lines.iter().map(first_state).collect(alloc)
+}
+
+fn first_state<L>(line: &Option<L>) -> LineState
+    ensures { result ≡ first_state line.now }
+{
+    match line {
+        Some(_) => LineState::Serving(0),
+        None => LineState::Missing,
     }
 }
 
@@ -58,11 +80,35 @@ pub fn finish_from<O: Ordering, L: Line>(
         → GoesOnFullAtRestBut (λ _ _. ⊥) (rules_of O.Ordering) (plan_of journal) start (past_of journal)
         → GoesOnFullAtRestBut (IsAside L.Line (rules_of O.Ordering) (plan_of journal) start (past_of result.journal) old result.lines.items) (rules_of O.Ordering) (plan_of journal) start (past_of result.journal) }
 {
-    let _ = alloc;
-    let _ = states;
+    let mut journal = journal;
+    let mut lines = lines;
+    let mut states = states;
+    let end = run_to_end(
+        alloc,
+        &mut journal,
+        lines.as_mut_slice(),
+        states.as_mut_slice(),
+    );
     Ran {
         journal,
         lines,
-        end: RunEnd::NoMemory,
+        end,
+    }
+}
+
+fn run_to_end<O: Ordering, L: Line>(
+    alloc: Global,
+    journal: &mut Journal<O>,
+    lines: &mut [Option<L>],
+    states: &mut [LineState],
+) -> RunEnd
+    requires ready { AreReady L.Line (rules_of O.Ordering) (plan_of journal.old) (past_of journal.old) lines.old states.old }
+    ensures plan { plan_of journal.new ≡ plan_of journal.old }
+    ensures went { Went L.Line (rules_of O.Ordering) (plan_of journal.old) (past_of journal.old) (past_of journal.new) lines.old lines.new states.old states.new }
+    ensures end { TellsEnd (rules_of O.Ordering) (plan_of journal.old) (past_of journal.new) states.new result }
+{
+    match run_rounds(alloc, journal, lines, states) {
+        Ok(()) => end_of(journal, states),
+        Err(NoMemory) => RunEnd::NoMemory,
     }
 }

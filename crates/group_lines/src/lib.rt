@@ -3,10 +3,16 @@
 #![tactic(auto)]
 
 mod bringing;
+mod ending;
 mod finishing;
+mod links;
 mod ran;
+mod rounds;
 mod visits;
 
 pub use bringing::bring;
 pub use finishing::{finish, finish_from};
 pub use ran::Ran;
+
+#[cfg(test)]
+mod tests;

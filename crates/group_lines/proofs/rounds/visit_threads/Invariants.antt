@@ -1,0 +1,12 @@
+use Rattle.std.proofs.Common.{ℕ, ◌≡◌, ◌<◌}
+use Rattle.member_rules.specs.Kept.{rules_of}
+use Rattle.run_journal.specs.Journal.{plan_of, past_of}
+use Rattle.group_lines.specs.Visits.{IsIdle, IsNotFull, IsThreadLeft, MadeMany}
+use Rattle.group_lines.proofs.rounds.visit_threads.Given as goal
+
+abbrev pub invariant-loop-thread : goal.invariant-loop-thread
+invariant-loop-thread g l = record {
+  plan : plan_of l.journal ≡ plan_of l.fn.journal;
+  made : MadeMany (plan_of l.fn.journal) (past_of l.fn.journal) (past_of l.journal) IsNotFull;
+  left : IsIdle (plan_of l.fn.journal) (past_of l.fn.journal) (past_of l.journal) → (thread : ℕ) → thread < l.thread → IsThreadLeft (rules_of g.O.Ordering) (plan_of l.fn.journal) (past_of l.fn.journal) thread;
+}

@@ -1,0 +1,26 @@
+ghost use Rattle.std.specs.Prelude.{◌≡◌, ◌*◌, ◌<◌, ◌≤◌};
+ghost use Rattle.group_lines.specs.Visits.{LinkStands};
+
+use upd_base::MemberId;
+
+pub(crate) fn member_at(i: u8) -> MemberId
+    requires { i < 7 }
+    ensures { result ≡ i }
+{
+    match MemberId::new(i) {
+        Some(m) => m,
+        None => unreachable!(),
+    }
+}
+
+/// The link whose line stands at this place, among those of so many members.
+pub(crate) fn link_at(members: u8, place: usize) -> (MemberId, MemberId)
+    requires few { members ≤ 7 }
+    requires place { place < members * members }
+    ensures { LinkStands members result.0 result.1 place }
+{
+    let count = usize::from(members);
+    let from = member_at((place / count) as u8);
+    let to = member_at((place % count) as u8);
+    (from, to)
+}
