@@ -1,0 +1,9 @@
+pub mod Places
+pub mod Frames
+pub mod Knowing
+pub mod Working
+pub mod Steps
+pub mod Closing
+pub mod Chaining
+pub mod Opening
+pub mod Leaving

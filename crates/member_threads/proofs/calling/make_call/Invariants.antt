@@ -1,0 +1,9 @@
+use Rattle.std.proofs.Common.{◌≡◌}
+use Rattle.turn_lock.specs.Lists.{IsPrefix}
+use Rattle.turn_lock.specs.Pass.{parts}
+use Rattle.live_group.specs.Pass.{events_seen}
+use Rattle.member_threads.specs.Group.{IsWorkersPass}
+use Rattle.member_threads.proofs.calling.make_call.Given as goal
+
+abbrev pub invariant-loop : goal.invariant-loop
+invariant-loop g l = record { pass : IsWorkersPass l.group (λ _. ⊥) l.pass; parts : parts l.pass ≡ parts l.initial.pass; seen : IsPrefix (events_seen l.initial.pass) (events_seen l.pass) }

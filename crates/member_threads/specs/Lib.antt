@@ -1,0 +1,4 @@
+pub mod Brought
+pub mod Knows
+pub mod Worked
+pub mod Group

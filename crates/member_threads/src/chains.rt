@@ -1,0 +1,163 @@
+//! The workers of a group, each in a thread of its own, in a chain: the pass is split for each, and every part and every line comes back.
+ghost use Rattle.std.specs.Prelude.{ℕ, true, None, [], ◌≡◌, ◌+◌, ◌*◌, ◌<◌, ◌≤◌, length, set, slice_index_or};
+ghost use denote.Param.Send.{IsSync};
+ghost use Rattle.upd_base.specs.Plan.{is_plan};
+ghost use Rattle.turn_lock.specs.Lists.{IsPrefix};
+ghost use Rattle.turn_lock.specs.Pass.{parts};
+ghost use Rattle.live_group.specs.Group.{plan_shared};
+ghost use Rattle.live_group.specs.Pass.{events_seen, places};
+ghost use Rattle.line_rules.specs.Given.{IsEven};
+ghost use Rattle.line_rules.specs.Lines.{IsEvenLine};
+ghost use Rattle.member_threads.specs.Group.{IsWorkersPass, HasWorked, HaveServed, MayServe};
+
+use crate::calling::make_calls;
+use crate::serving::{Served, serve_link};
+use line_rules::LineState;
+use live_group::{GroupPass, LiveGroup};
+use order_trait::Ordering;
+use std::alloc::Global;
+use std::sync::Wait;
+use std::thread;
+use std::thread::Threads;
+use upd_base::MemberId;
+use upd_lines::Line;
+use worker_gates::Gate;
+
+/// The lines of a group at their places, with their states, and whether a request for memory was refused.
+#[derive(Drop)]
+pub(crate) struct Left<L: Line> {
+    pub(crate) lines: Vec<Option<L>>,
+    pub(crate) states: Vec<LineState>,
+    pub(crate) wanted: bool,
+}
+
+/// Takes the line at a place, if one is there.
+fn take_line<L: Line>(left: &mut Left<L>, place: usize) -> Option<L>
+    requires { place < length left.old.lines.items }
+    ensures line { result ≡ slice_index_or left.old.lines.items place None }
+    ensures lines { left.new.lines.items ≡ set left.old.lines.items place None }
+    ensures states { left.new.states.items ≡ left.old.states.items }
+{
+    left.lines[place].take()
+}
+
+/// Puts a line back at its place, with its state.
+fn put_back<L: Line>(left: &mut Left<L>, place: usize, line: Option<L>, state: LineState)
+    requires lines { place < length left.old.lines.items }
+    requires states { place < length left.old.states.items }
+    ensures lines { left.new.lines.items ≡ set left.old.lines.items place line }
+    ensures states { left.new.states.items ≡ set left.old.states.items place state }
+    ensures wanted { left.new.wanted ≡ left.old.wanted }
+{
+    left.lines[place] = line;
+    left.states[place] = state;
+}
+
+/// The link whose line stands at a place.
+fn link_at(place: usize, members: u8) -> (MemberId, MemberId)
+    requires within { place < members * members }
+    requires few { members ≤ 7 }
+    ensures from { result.0 < members }
+    ensures to { result.1 < members }
+    ensures place { result.0 * members + result.1 ≡ place }
+{
+    let count = members as usize;
+    let (from, to) = (place / count, place % count);
+    match (MemberId::new(from as u8), MemberId::new(to as u8)) {
+        (Some(from), Some(to)) => (from, to),
+        _ => unreachable!(),
+    }
+}
+
+// Whether one of the two is so.
+fn either(one: bool, other: bool) -> bool
+    ensures one { one ≡ true → result ≡ true }
+    ensures other { other ≡ true → result ≡ true }
+{
+    one || other
+}
+
+/// A worker for each thread of the plan from this number on. They come back with the pass, and whether a request for memory was refused.
+fn call_threads<O: Ordering, G: Gate, R: Threads + Wait + Sync>(
+    rt: &R,
+    alloc: Global,
+    group: &LiveGroup<O>,
+    gate: &G,
+    mut pass: GroupPass<O>,
+    number: u8,
+    threads: u8,
+) -> (GroupPass<O>, bool)
+    requires pass { IsWorkersPass group.now (λ _. ⊥) pass }
+    requires threads { threads ≡ length (plan_shared group.now).threads }
+    requires enough { threads < parts pass + number }
+    ensures pass { IsWorkersPass group.now (λ _. ⊥) result.0 }
+    ensures parts { parts result.0 ≡ parts pass }
+{
+    if number >= threads {
+        return (pass, false);
+    }
+    let other = group.split(&mut pass);
+    let next = number + 1;
+    let ((theirs, short), (mut mine, wanted)) = thread::join(
+        rt,
+        move || -> (GroupPass<O>, bool)
+            requires { IsWorkersPass group.now (λ _. ⊥) other × (number < length (plan_shared group.now).threads) }
+            ensures { IsWorkersPass group.entry.now (λ _. ⊥) result.0 × (parts result.0 ≡ parts other) }
+        { make_calls(rt, alloc, group, gate, other, number) },
+        move || -> (GroupPass<O>, bool)
+            requires { IsSync R.row × IsWorkersPass group.now (λ _. ⊥) pass × (threads ≡ length (plan_shared group.now).threads) × (threads < parts pass + next) }
+            ensures { IsWorkersPass group.entry.now (λ _. ⊥) result.0 × (parts result.0 ≡ parts pass) }
+        { call_threads(rt, alloc, group, gate, pass, next, threads) },
+    );
+    group.join(&mut mine, theirs);
+    (mine, either(wanted, short))
+}
+
+/// A worker for each link from this place on whose line is there, and one for each thread of the plan. They come back with the pass and
+/// all lines.
+pub(crate) fn serve_links<O: Ordering, L: Line, G: Gate, R: Threads + Wait + Sync>(
+    rt: &R,
+    alloc: Global,
+    group: &LiveGroup<O>,
+    gate: &G,
+    mut pass: GroupPass<O>,
+    mut left: Left<L>,
+    place: usize,
+    members: u8,
+    threads: u8,
+) -> (GroupPass<O>, Left<L>)
+    requires { MayServe group.now L.Line place members threads pass left.lines.items left.states.items }
+    ensures { HaveServed group.now L.Line place (parts pass) result.0 result.1.wanted left.lines.items result.1.lines.items result.1.states.items }
+{
+    if place >= left.lines.len() {
+        let (pass, wanted) = call_threads(rt, alloc, group, gate, pass, 0, threads);
+        left.wanted = wanted;
+        return (pass, left);
+    }
+    let next = place + 1;
+    let Some(line) = take_line(&mut left, place) else {
+        let (pass, mut left) = serve_links(
+            rt, alloc, group, gate, pass, left, next, members, threads,
+        );
+        put_back(&mut left, place, None, LineState::Missing);
+        return (pass, left);
+    };
+    let (from, to) = link_at(place, members);
+    let other = group.split(&mut pass);
+    let ((theirs, served, short), (mut mine, mut left)) = thread::join(
+        rt,
+        move || -> (GroupPass<O>, Served<L>, bool)
+            requires { IsWorkersPass group.now (λ k. k ≡ from * (plan_shared group.now).members + to) other × (places other ≡ []) × (from < (plan_shared group.now).members) × (to < (plan_shared group.now).members) × (is_plan (plan_shared group.now) ≡ true) × IsEven (L.told line) }
+            ensures { IsWorkersPass group.entry.now (λ k. k ≡ from * (plan_shared group.entry.now).members + to) result.0 × (parts result.0 ≡ parts other) × HasWorked group.entry.now L.Line result.0 from to result.2 line result.1.line result.1.state }
+        { serve_link(rt, alloc, group, other, from, to, line) },
+        move || -> (GroupPass<O>, Left<L>)
+            requires { IsSync R.row × MayServe group.now L.Line next members threads pass left.lines.items left.states.items }
+            ensures { HaveServed group.entry.now L.Line next (parts pass) result.0 result.1.wanted left.lines.items result.1.lines.items result.1.states.items }
+        { serve_links(rt, alloc, group, gate, pass, left, next, members, threads) },
+    );
+    group.join(&mut mine, theirs);
+    let Served { line, state } = served;
+    put_back(&mut left, place, Some(line), state);
+    left.wanted = either(left.wanted, short);
+    (mine, left)
+}
