@@ -1,14 +1,16 @@
 -- From the bytes of a journal's text that were read to all that the source had.
-use Rattle.std.proofs.Common.{ℕ, zero, suc, ◌+◌, ◌≡◌, ◌<◌, ◌≤◌, ◌⊎◌, inl, inr, List, [], ◌∷◌, length, take, Option, Some, None, IfSome, refl, sym, ap, ◌∙◌, subst, arith}
+use Rattle.std.proofs.Common.{ℕ, zero, suc, ◌+◌, ◌≡◌, ◌≢◌, ◌<◌, ◌≤◌, ◌⊎◌, inl, inr, List, [], ◌∷◌, length, take, Option, Some, None, IfSome, refl, sym, ap, ◌∙◌, subst, arith, reverse}
 use Rattle.upd_base.specs.Plan.{Planned}
 use Rattle.upd_base.specs.declared.event.Event.{Event}
 use Rattle.upd_io.specs.Whole.{ReadUpTo}
+use Rattle.group_run.specs.Run.{IsGroupRun}
+use Rattle.journal_laws.specs.Laws.{IsAnsweredOneWay}
 use Rattle.journal_file.specs.Reading.{HasWrongEvent, IsFirstFault, IsJournalText, ReadFault}
 use Rattle.journal_file.specs.declared.fault.JournalFault.{JournalFault}
 use Rattle.journal_file.specs.declared.fault.JournalFault.TheVariants as faults
 use Rattle.journal_file.specs.declared.limits.TheConstants.{MAX_TEXT}
 use Rattle.updatectl.specs.Causes.{OrMemory}
-use Rattle.updatectl.specs.Checked.{IsOfCheck, IsSound, IsWritten, JournalCause, journal_refused}
+use Rattle.updatectl.specs.Checked.{IsOfCheck, IsWritten, JournalCause, journal_refused}
 use Rattle.updatectl.specs.Recorded.{the_rules}
 use Rattle.updatectl.specs.declared.outcome.Status.{Status}
 use Rattle.updatectl.specs.declared.outcome.Status.TheVariants as statuses
@@ -53,38 +55,54 @@ journal_fault (Some all) new bytes faults.TooLong before now read is = (tt, faul
 journal_fault (Some all) new bytes (faults.Line number) before now read is = (tt, fault_of_all bytes all (faults.Line number) read.given is)
 journal_fault (Some all) new bytes (faults.Event place) before now read is = fault_of_all bytes all (faults.Event place) read.given is
 
--- What the bytes must be where they are not reported -----------------------------------------------------------------
+-- What is told where the bytes are a text, or have a fault -------------------------------------------------------------
 
-pub long_only : (status : Status) (before now : ℕ) (old : Option (List ℕ)) → JournalCause status before now old
-    → IfSome old (λ all. MAX_TEXT < length all → OrMemory status (statuses.JournalRefused faults.TooLong) ⊎ (status ≡ statuses.SourceFailed))
-long_only status before now None cause = tt
-long_only statuses.SourceFailed before now (Some all) cause = λ long. inr refl
-long_only (statuses.NotARun place) before now (Some all) cause = λ long. absurd (let short = cause.2.short in omega (arith, long, short))
-long_only (statuses.JournalRefused faults.TooLong) before now (Some all) cause = λ long. inl (inl refl)
-long_only (statuses.JournalRefused (faults.Line number)) before now (Some all) cause = λ long. absurd (let short = cause.1.short in omega (arith, long, short))
-long_only (statuses.JournalRefused (faults.Event place)) before now (Some all) cause = λ long. absurd cause.0
-long_only (statuses.JournalRefused faults.NoMemory) before now (Some all) cause = λ long. absurd cause.0
-long_only statuses.NoMemory before now (Some all) cause = λ long. inl (inr refl)
-long_only statuses.Words before now (Some all) cause = absurd cause
-long_only statuses.Done before now (Some all) cause = absurd cause
-long_only statuses.SinkFailed before now (Some all) cause = absurd cause
-long_only (statuses.Scenario fault) before now (Some all) cause = absurd cause
-long_only statuses.TurnsSpent before now (Some all) cause = absurd cause
+pub text_told : (status : Status) (before now : ℕ) (old : Option (List ℕ)) → IsAnsweredOneWay → JournalCause status before now old
+    → IfSome old (λ all. (p : Planned) (es : List Event) → IsJournalText all p es → IsGroupRun the_rules p (reverse es) → IsWritten status ⊎ (status ≡ statuses.SourceFailed))
+text_told status before now None law cause = tt
+text_told statuses.SourceFailed before now (Some all) law cause = λ p es text run. inr refl
+text_told (statuses.NotARun place) before now (Some all) law cause = λ p es text run. absurd (let e = (law the_rules all).no_fault p es (faults.Event place) text run cause in cc)
+text_told (statuses.JournalRefused faults.TooLong) before now (Some all) law cause = λ p es text run. absurd (let e = (law the_rules all).no_fault p es faults.TooLong text run cause.1 in cc)
+text_told (statuses.JournalRefused (faults.Line number)) before now (Some all) law cause = λ p es text run. absurd (let e = (law the_rules all).no_fault p es (faults.Line number) text run cause.1 in cc)
+text_told (statuses.JournalRefused (faults.Event place)) before now (Some all) law cause = absurd cause.0
+text_told (statuses.JournalRefused faults.NoMemory) before now (Some all) law cause = absurd cause.0
+text_told statuses.NoMemory before now (Some all) law cause = λ p es text run. inl (inr (inr refl))
+text_told statuses.Words before now (Some all) law cause = absurd cause
+text_told statuses.Done before now (Some all) law cause = absurd cause
+text_told statuses.SinkFailed before now (Some all) law cause = absurd cause
+text_told (statuses.Scenario fault) before now (Some all) law cause = absurd cause
+text_told statuses.TurnsSpent before now (Some all) law cause = absurd cause
 
-pub sound_only : (status : Status) (before now : ℕ) (old : Option (List ℕ)) → JournalCause status before now old → IfSome old (λ all. IsSound all → IsWritten status ⊎ (status ≡ statuses.SourceFailed))
-sound_only status before now None cause = tt
-sound_only statuses.SourceFailed before now (Some all) cause = λ sound. inr refl
-sound_only (statuses.NotARun place) before now (Some all) cause = λ sound. absurd (sound (faults.Event place) (λ e. cc) cause)
-sound_only (statuses.JournalRefused faults.TooLong) before now (Some all) cause = λ sound. absurd (sound faults.TooLong (λ e. cc) cause.1)
-sound_only (statuses.JournalRefused (faults.Line number)) before now (Some all) cause = λ sound. absurd (sound (faults.Line number) (λ e. cc) cause.1)
-sound_only (statuses.JournalRefused (faults.Event place)) before now (Some all) cause = λ sound. absurd cause.0
-sound_only (statuses.JournalRefused faults.NoMemory) before now (Some all) cause = λ sound. absurd cause.0
-sound_only statuses.NoMemory before now (Some all) cause = λ sound. inl (inr (inr refl))
-sound_only statuses.Words before now (Some all) cause = absurd cause
-sound_only statuses.Done before now (Some all) cause = absurd cause
-sound_only statuses.SinkFailed before now (Some all) cause = absurd cause
-sound_only (statuses.Scenario fault) before now (Some all) cause = absurd cause
-sound_only statuses.TurnsSpent before now (Some all) cause = absurd cause
+same_told : (all : List ℕ) (f g : JournalFault) → IsAnsweredOneWay → f ≢ faults.NoMemory → g ≢ faults.NoMemory → ReadFault the_rules all f → ReadFault the_rules all g → journal_refused g ≡ journal_refused f
+same_told all f g law one other first second = ap (λ h. journal_refused h) ((law the_rules all).one_fault g f other one second first)
+
+pub fault_told : (status : Status) (before now : ℕ) (old : Option (List ℕ)) → IsAnsweredOneWay → JournalCause status before now old
+    → IfSome old (λ all. (f : JournalFault) → f ≢ faults.NoMemory → ReadFault the_rules all f → OrMemory status (journal_refused f) ⊎ (status ≡ statuses.SourceFailed))
+fault_told status before now None law cause = tt
+fault_told statuses.SourceFailed before now (Some all) law cause = λ f some read. inr refl
+fault_told (statuses.NotARun place) before now (Some all) law cause = λ f some read. inl (inl (same_told all f (faults.Event place) law some (λ e. cc) read cause))
+fault_told (statuses.JournalRefused faults.TooLong) before now (Some all) law cause = λ f some read. inl (inl (same_told all f faults.TooLong law some (λ e. cc) read cause.1))
+fault_told (statuses.JournalRefused (faults.Line number)) before now (Some all) law cause = λ f some read. inl (inl (same_told all f (faults.Line number) law some (λ e. cc) read cause.1))
+fault_told (statuses.JournalRefused (faults.Event place)) before now (Some all) law cause = absurd cause.0
+fault_told (statuses.JournalRefused faults.NoMemory) before now (Some all) law cause = absurd cause.0
+fault_told statuses.NoMemory before now (Some all) law cause = λ f some read. inl (inr refl)
+fault_told statuses.Words before now (Some all) law cause = absurd cause
+fault_told statuses.Done before now (Some all) law cause = absurd cause
+fault_told statuses.SinkFailed before now (Some all) law cause = absurd cause
+fault_told (statuses.Scenario fault) before now (Some all) law cause = absurd cause
+fault_told statuses.TurnsSpent before now (Some all) law cause = absurd cause
+
+-- a text that was read has no fault
+pub none_told : (status : Status) (old : Option (List ℕ)) (p : Planned) (es : List Event) → IsAnsweredOneWay → IsGroupRun the_rules p (reverse es) → IfSome old (λ all. IsJournalText all p es)
+    → IfSome old (λ all. (f : JournalFault) → f ≢ faults.NoMemory → ReadFault the_rules all f → OrMemory status (journal_refused f) ⊎ (status ≡ statuses.SourceFailed))
+none_told status None p es law run text = tt
+none_told status (Some all) p es law run text = λ f some read. absurd (some ((law the_rules all).no_fault p es f text run read))
+
+-- and its run is told
+pub written_told : (status : Status) (old : Option (List ℕ)) → IsWritten status
+    → IfSome old (λ all. (p : Planned) (es : List Event) → IsJournalText all p es → IsGroupRun the_rules p (reverse es) → IsWritten status ⊎ (status ≡ statuses.SourceFailed))
+written_told status None written = tt
+written_told status (Some all) written = λ p es text run. inl written
 
 -- Refusals ------------------------------------------------------------------------------------------------------------
 

@@ -1,5 +1,5 @@
 -- What `check` and `gen` come to.
-use Rattle.std.specs.Prelude.{ℕ, ◌≡◌, ◌≢◌, ◌⊎◌, List, Option, IfSome}
+use Rattle.std.specs.Prelude.{ℕ, ◌≡◌, ◌⊎◌, List, Option, IfSome}
 use Rattle.std.specs.Io.KnownBytes.{Appends, Keeps}
 use Rattle.upd_base.specs.Edge.{Rose}
 use Rattle.upd_base.specs.declared.edge.EdgeFault.{EdgeFault}
@@ -52,10 +52,6 @@ IsOfCheck (statuses.JournalRefused fault) = Unit {0}
 IsOfCheck statuses.Words = ⊥
 IsOfCheck (statuses.Scenario fault) = ⊥
 IsOfCheck statuses.TurnsSpent = ⊥
-
--- no fault that a reading tells
-abbrev pub IsSound : List ℕ → Type 0
-IsSound bytes = (fault : JournalFault) → (fault ≢ journal_faults.NoMemory) → ReadFault the_rules bytes fault → ⊥
 
 -- how the writing of a text may end
 abbrev pub IsWritten : Status → Type 0

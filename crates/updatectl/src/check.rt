@@ -1,14 +1,18 @@
 //! `check`: a journal's text, read and reported.
-ghost use Rattle.std.specs.Prelude.{ℕ, ◌≡◌, ◌≤◌, ◌<◌, ◌⊎◌, IfNone, IfSome, None, OnSome, Some, length};
+ghost use Rattle.std.specs.Prelude.{◌≡◌, ◌≢◌, ◌⊎◌, IfNone, IfSome, List, None, OnSome, Some, reverse};
 ghost use Rattle.std.specs.Io.KnownBytes.{IsAtEnd, Keeps};
 ghost use Rattle.upd_base.specs.Edge.{Rose};
 ghost use Rattle.upd_io.specs.Whole.{AppendsPrefix};
 ghost use Rattle.run_journal.specs.Journal.{events_of, past_of, plan_of};
-ghost use Rattle.journal_file.specs.Reading.{IsJournalText};
+ghost use Rattle.upd_base.specs.Plan.{Planned};
+ghost use Rattle.upd_base.specs.declared.event.Event.{Event};
+ghost use Rattle.group_run.specs.Run.{IsGroupRun};
+ghost use Rattle.journal_file.specs.Reading.{IsJournalText, ReadFault};
+ghost use Rattle.journal_file.specs.declared.fault.JournalFault.{JournalFault};
 ghost use Rattle.journal_file.specs.declared.fault.JournalFault.TheVariants as journal_faults;
-ghost use Rattle.journal_file.specs.declared.limits.TheConstants.{MAX_TEXT};
 ghost use Rattle.updatectl.specs.Causes.{IsRefusal, OrMemory, Told};
-ghost use Rattle.updatectl.specs.Checked.{IsOfCheck, IsSound, IsWritten, JournalCause, WroteCheck};
+ghost use Rattle.updatectl.specs.Checked.{IsOfCheck, IsWritten, JournalCause, WroteCheck, journal_refused};
+ghost use Rattle.updatectl.specs.Recorded.{the_rules};
 ghost use Rattle.updatectl.specs.Rehearsal.{KeepsLaws};
 ghost use Rattle.updatectl.specs.Texts.{refusal_text};
 ghost use Rattle.updatectl.specs.declared.outcome.Status.{Status};
@@ -19,6 +23,7 @@ use crate::outcome::{Outcome, Status};
 use crate::refusals::{refuse, without_journal};
 use crate::texts::checked_text;
 use crate::writing::write_text;
+use journal_laws::one_answer_is_right;
 use module_binding::Module;
 use run_journal::Journal;
 use std::alloc::Global;
@@ -38,14 +43,16 @@ pub(crate) fn check_journal<S: Source, K: Sink>(
     ensures wrote { IfSome result.journal (λ j. WroteCheck result.status (plan_of j) (past_of j) (K.held sink.old) (K.held sink.new)) }
     ensures sink_failed { result.status ≡ Status.SinkFailed → Rose (K.faults sink.old) (K.faults sink.new) }
     ensures cause { IfNone result.journal (JournalCause result.status (S.faults source.old) (S.faults source.new) (S.left source.old)) }
-    ensures too_long_only { IfSome (S.left source.old) (λ all. MAX_TEXT < length all
-        → OrMemory result.status (Status.JournalRefused journal_faults.TooLong) ⊎ (result.status ≡ Status.SourceFailed)) }
-    ensures sound { IfSome (S.left source.old) (λ all. IsSound all → IsWritten result.status ⊎ (result.status ≡ Status.SourceFailed)) }
+    ensures text_only { IfSome (S.left source.old) (λ all. (p : Planned) (es : List Event) → IsJournalText all p es → IsGroupRun the_rules p (reverse es)
+        → IsWritten result.status ⊎ (result.status ≡ Status.SourceFailed)) }
+    ensures fault_only { IfSome (S.left source.old) (λ all. (f : JournalFault) → f ≢ journal_faults.NoMemory → ReadFault the_rules all f
+        → OrMemory result.status (journal_refused f) ⊎ (result.status ≡ Status.SourceFailed)) }
     ensures refusal { IsRefusal result.status → Told (K.faults sink.old) (K.faults sink.new) (K.held sink.old) (K.held sink.new) (refusal_text result.status) }
     ensures refused_journal { IsRefusal result.status → result.journal ≡ None }
     ensures memory { result.status ≡ Status.NoMemory → IfNone result.journal (Keeps (K.held sink.old) (K.held sink.new) ⊎ ((s : Status)
         × IsRefusal s × JournalCause s (S.faults source.old) (S.faults source.new) (S.left source.old) × AppendsPrefix (K.held sink.old) (K.held sink.new) (refusal_text s))) }
 {
+    one_answer_is_right();
     match journal_from(alloc, source) {
         Ok(journal) => report_read(alloc, journal, sink),
         Err(Status::NoMemory) => without_journal(alloc, Status::NoMemory),

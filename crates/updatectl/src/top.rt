@@ -1,8 +1,10 @@
 //! The commands that need no lines.
-ghost use Rattle.std.specs.Prelude.{ℕ, ◌≡◌, ◌⊎◌, ◌<◌, length, Some, None, Ok, Err, IfSome, IsSome, IfNone, OnSome, map, string_bytes};
+ghost use Rattle.std.specs.Prelude.{ℕ, ◌≡◌, ◌≢◌, ◌⊎◌, List, reverse, Some, None, Ok, Err, IfSome, IsSome, IfNone, OnSome, map, string_bytes};
 ghost use Rattle.std.specs.Io.KnownBytes.{IsAtEnd, Keeps};
 ghost use Rattle.upd_base.specs.Edge.{Rose};
 ghost use Rattle.upd_base.specs.Plan.{Planned};
+ghost use Rattle.upd_base.specs.declared.event.Event.{Event};
+ghost use Rattle.group_run.specs.Run.{IsGroupRun};
 ghost use Rattle.upd_io.specs.Whole.{AppendsLess, AppendsPrefix};
 ghost use Rattle.scenario.specs.Reading.{reading};
 ghost use Rattle.scenario.specs.declared.fault.ScenarioFault.{ScenarioFault};
@@ -11,14 +13,13 @@ ghost use Rattle.run_journal.specs.Journal.{events_of, past_of, plan_of};
 ghost use Rattle.journal_file.specs.Reading.{HasWrongEvent, IsJournalText, ReadFault};
 ghost use Rattle.journal_file.specs.declared.fault.JournalFault.{JournalFault};
 ghost use Rattle.journal_file.specs.declared.fault.JournalFault.TheVariants as journal_faults;
-ghost use Rattle.journal_file.specs.declared.limits.TheConstants.{MAX_TEXT};
 ghost use Rattle.planned_calls.specs.Calls.{HasNo, is_suspect};
 ghost use Rattle.updatectl.specs.Words.{command};
 ghost use Rattle.updatectl.specs.Recorded.{the_rules};
 ghost use Rattle.updatectl.specs.Rehearsal.{IsRehearsalOf, KeepsLaws};
 ghost use Rattle.updatectl.specs.Texts.{refusal_text};
 ghost use Rattle.updatectl.specs.Causes.{IsOfScenario, IsRefusal, IsWriting, OrMemory, RefusalCause, Told, WroteRun};
-ghost use Rattle.updatectl.specs.Checked.{IsOfCheck, IsOfText, IsSound, IsWritten, WroteCheck, WroteText};
+ghost use Rattle.updatectl.specs.Checked.{IsOfCheck, IsOfText, IsWritten, WroteCheck, WroteText, journal_refused};
 ghost use Rattle.updatectl.specs.declared.words.Generate.{Generate};
 ghost use Rattle.updatectl.specs.declared.words.Rehearse.{Rehearse};
 ghost use Rattle.updatectl.specs.declared.words.Command.TheVariants as commands;
@@ -77,10 +78,11 @@ pub fn plain<S: Source, K: Sink>(
     // NotARun: the text is good, and that event is the first that can't be made. JournalRefused: the text is none.
     ensures not_a_run { (place : ℕ) → result.status ≡ Status.NotARun place → IfSome (S.left source.old) (λ all. HasWrongEvent the_rules all place) }
     ensures journal_refused { (f : JournalFault) → result.status ≡ Status.JournalRefused f → IsOfText f × IfSome (S.left source.old) (λ all. ReadFault the_rules all f) }
-    ensures too_long_only { command (map string_bytes words.now) ≡ Some commands.Check → IfSome (S.left source.old) (λ all. MAX_TEXT < length all
-        → OrMemory result.status (Status.JournalRefused journal_faults.TooLong) ⊎ (result.status ≡ Status.SourceFailed)) }
-    // Where the bytes have none of these faults, the run is told.
-    ensures checked_sound { command (map string_bytes words.now) ≡ Some commands.Check → IfSome (S.left source.old) (λ all. IsSound all → IsWritten result.status ⊎ (result.status ≡ Status.SourceFailed)) }
+    // Each comes where its cause holds, and where the bytes are the text of a run, that is told.
+    ensures checked_fault_only { command (map string_bytes words.now) ≡ Some commands.Check → IfSome (S.left source.old) (λ all. (f : JournalFault) → f ≢ journal_faults.NoMemory → ReadFault the_rules all f
+        → OrMemory result.status (journal_refused f) ⊎ (result.status ≡ Status.SourceFailed)) }
+    ensures checked_text_only { command (map string_bytes words.now) ≡ Some commands.Check → IfSome (S.left source.old) (λ all. (p : Planned) (es : List Event) → IsJournalText all p es → IsGroupRun the_rules p (reverse es)
+        → IsWritten result.status ⊎ (result.status ≡ Status.SourceFailed)) }
     // A generated scenario is written, and nothing is read.
     ensures generated { (asked : Generate) → command (map string_bytes words.now) ≡ Some (commands.Generate asked) → IsWritten result.status × WroteText result.status (spelt asked.seed asked.calls) (K.held sink.old) (K.held sink.new) }
     ensures generated_alone { (asked : Generate) → command (map string_bytes words.now) ≡ Some (commands.Generate asked) → (result.journal ≡ None) × (source.new ≡ source.old) }
