@@ -70,6 +70,8 @@ long_only statuses.Done before now (Some all) cause = absurd cause
 long_only statuses.SinkFailed before now (Some all) cause = absurd cause
 long_only (statuses.Scenario fault) before now (Some all) cause = absurd cause
 long_only statuses.TurnsSpent before now (Some all) cause = absurd cause
+long_only (statuses.LineDown from to) before now (Some all) cause = absurd cause
+long_only (statuses.LineLied from to at put got) before now (Some all) cause = absurd cause
 
 pub sound_only : (status : Status) (before now : ℕ) (old : Option (List ℕ)) → JournalCause status before now old → IfSome old (λ all. IsSound all → IsWritten status ⊎ (status ≡ statuses.SourceFailed))
 sound_only status before now None cause = tt
@@ -85,6 +87,8 @@ sound_only statuses.Done before now (Some all) cause = absurd cause
 sound_only statuses.SinkFailed before now (Some all) cause = absurd cause
 sound_only (statuses.Scenario fault) before now (Some all) cause = absurd cause
 sound_only statuses.TurnsSpent before now (Some all) cause = absurd cause
+sound_only (statuses.LineDown from to) before now (Some all) cause = absurd cause
+sound_only (statuses.LineLied from to at put got) before now (Some all) cause = absurd cause
 
 -- Refusals ------------------------------------------------------------------------------------------------------------
 
@@ -104,3 +108,5 @@ is_of_check statuses.Done before now old cause = absurd cause
 is_of_check statuses.SinkFailed before now old cause = absurd cause
 is_of_check (statuses.Scenario fault) before now old cause = absurd cause
 is_of_check statuses.TurnsSpent before now old cause = absurd cause
+is_of_check (statuses.LineDown from to) before now old cause = absurd cause
+is_of_check (statuses.LineLied from to at put got) before now old cause = absurd cause

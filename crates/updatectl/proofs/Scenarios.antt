@@ -40,6 +40,8 @@ none_refused statuses.Words status before now (Some all) new from or = absurd fr
 none_refused statuses.Done status before now (Some all) new from or = absurd from
 none_refused statuses.SinkFailed status before now (Some all) new from or = absurd from
 none_refused statuses.TurnsSpent status before now (Some all) new from or = absurd from
+none_refused (statuses.LineDown f t) status before now (Some all) new from or = absurd from
+none_refused (statuses.LineLied f t at put got) status before now (Some all) new from or = absurd from
 none_refused (statuses.NotARun place) status before now (Some all) new from or = absurd from
 none_refused (statuses.JournalRefused fault) status before now (Some all) new from or = absurd from
 
@@ -54,5 +56,22 @@ none_complete statuses.Words status before now (Some all) new Sink from or = abs
 none_complete statuses.Done status before now (Some all) new Sink from or = absurd from
 none_complete statuses.SinkFailed status before now (Some all) new Sink from or = absurd from
 none_complete statuses.TurnsSpent status before now (Some all) new Sink from or = absurd from
+none_complete (statuses.LineDown f t) status before now (Some all) new Sink from or = absurd from
+none_complete (statuses.LineLied f t at put got) status before now (Some all) new Sink from or = absurd from
 none_complete (statuses.NotARun place) status before now (Some all) new Sink from or = absurd from
 none_complete (statuses.JournalRefused fault) status before now (Some all) new Sink from or = absurd from
+
+-- Runs with threads -------------------------------------------------------------------------------------------------
+
+-- what is true of the plan that was read
+pub plan_ends : (old : Option (List ℕ)) (p : Planned) (Ends : Planned → Type 0) → IfSome old (λ all. reading all ≡ Ok p) → Ends p → IfSome old (λ all. (q : Planned) → reading all ≡ Ok q → Ends q)
+plan_ends None p Ends read ends = tt
+plan_ends (Some all) p Ends read ends = λ q e. subst Ends (same_plan read e) ends
+
+-- where none was read
+pub none_ends : (given status : Status) (before now : ℕ) (old new : Option (List ℕ)) (Sink : Type 0) (Steady : Planned → Type 0) (Faithful : Planned → Type 0) (Lied : Type 0) → PlanFrom (Err given) before now old new → OrMemory status given
+    → IfSome old (λ all. (q : Planned) → reading all ≡ Ok q → HasNo is_suspect q → (Rose before now → ⊥) → (Sink → ⊥) → Steady q → (Faithful q → OrMemory status statuses.Done) × (OrMemory status statuses.Done ⊎ Lied))
+none_ends given status before now None new Sink Steady Faithful Lied from or = tt
+none_ends given status before now (Some all) new Sink Steady Faithful Lied from or = λ q e without calm holds steady.
+    let done = none_complete given status before now (Some all) new Sink from or q e without calm holds in
+    (λ faithful. done, inl done)

@@ -6,6 +6,8 @@ mod check;
 mod generate;
 mod journal;
 mod journal_input;
+mod live;
+mod making;
 mod outcome;
 mod refusals;
 mod run_end;
