@@ -98,12 +98,12 @@ fn recorded(rt: HostRuntime) -> Result<(), Fail> {
 #[test]
 fn refused_journals(rt: HostRuntime) -> Result<(), Fail> {
     let alloc = rt.alloc();
-    let other = "journal 1\nmembers 1\nfirst lamport\nthreads 1\nthread 0\nevents 1\n";
+    let other = "journal 1\nmembers 1\nfirst lamport\nthreads 1\nthread 1\n0 send a\nevents 1\n";
     let text = format!(in alloc; "{other}receive 0 0\nend\n")?;
     let (status, text) = run(alloc, &["check"], text.as_str(), &[], &[])?;
     assert_eq!(rt; (status, text.as_str()), (10, "not a run: event 1\n"));
     let (status, text) = run(alloc, &["check"], other, &[], &[])?;
-    assert_eq!(rt; (status, text.as_str()), (11, "journal refused: line 7\n"));
+    assert_eq!(rt; (status, text.as_str()), (11, "journal refused: line 8\n"));
     let (status, text) = run(alloc, &["check"], RECORDED, &[2], &[])?;
     assert_eq!(rt; (status, text.as_str()), (3, "source failed\n"));
     let (status, text) = run(alloc, &["check"], RECORDED, &[], &[2])?;
