@@ -180,9 +180,11 @@ module _ {L : Type 0} (G : Ghosts L) where
       let s = steady from to d.from_member d.to_member in
       absurd (not_down (before from to) (now from to) (line_at plan.members live.made from to) (line_at plan.members lines from to) (live.are_made.each from to d.from_member d.to_member) s.0 s.1 d.is_down)
   complete (statuses.LineLied from to at put got) form plan past lines old new before now Rises live is rose without holds steady =
-      let d = live.run.lied from to at put got refl in
-      (λ faithful. absurd (not_faithful (carried the_rules plan [] past from to) (next_bytes the_rules plan past from to) (line_at plan.members live.made from to) (line_at plan.members lines from to) (record { at = at; put = put; got = got }) d.told
-      (faithful from to d.from_member d.to_member)), inr (from, to, at, put, got, refl))
+      let d = live.run.lied from to at put got refl in (
+        λ faithful. absurd (not_faithful (carried the_rules plan [] past from to) (next_bytes the_rules plan past from to) (line_at plan.members live.made from to) (line_at plan.members lines from to) (record { at = at; put = put; got = got }) d.told
+            (faithful from to d.from_member d.to_member)),
+        inr (from, to, at, put, got, refl),
+      )
   complete statuses.Words form plan past lines old new before now Rises live is rose without holds steady = absurd is
   complete statuses.SourceFailed form plan past lines old new before now Rises live is rose without holds steady = absurd is
   complete (statuses.Scenario fault) form plan past lines old new before now Rises live is rose without holds steady = absurd is

@@ -45,7 +45,7 @@ module _ {L : Type 0} (G : Ghosts L) where
     later = λ from to. (let b = so_far.later from to in let m = later from to in omega (arith, b, m));
     each = λ place lt. at place (below_or place (let e = length-append lines (line ∷ []) in omega (arith, lt, e)));
     even = All-append (IsEvenLine G) lines (line ∷ []) so_far.even
-    (All-cons (IsEvenLine G) line [] (made_even (mid (length lines / n) (length lines % n)) (now (length lines / n) (length lines % n)) line made) (All-nil (IsEvenLine G)));
+        (All-cons (IsEvenLine G) line [] (made_even (mid (length lines / n) (length lines % n)) (now (length lines / n) (length lines % n)) line made) (All-nil (IsEvenLine G)));
   }
     where
       below_or : (place : ℕ) → place < length lines + 1 → (place < length lines) ⊎ (place ≡ length lines)
@@ -53,6 +53,7 @@ module _ {L : Type 0} (G : Ghosts L) where
         | inl l ↦ inl l
         | inr ge ↦ inr (omega (arith, lt, ge))
       ]
+
       at : (place : ℕ) → (place < length lines) ⊎ (place ≡ length lines)
           → IsMade G (before (place / n) (place % n)) (now (place / n) (place % n)) (slice_index_or (lines ++ line ∷ []) place None)
       at place (inl lt) =
@@ -69,10 +70,10 @@ module _ {L : Type 0} (G : Ghosts L) where
   all_made n before now lines so_far many = record {
     places = many;
     each = λ from to lf lt.
-      let place : ℕ = from * n + to in
-      let within : place < length lines = subst (λ k. place < k) (sym many) (mul-add-lt from n to n lf lt) in
-      let row : place / n ≡ from = div-mul-add from n to lt in
-      let column : place % n ≡ to = mod-mul-add from n to lt in
-      subst (λ i. IsMade G (before i to) (now i to) (line_at n lines from to)) row
-      (subst (λ j. IsMade G (before (place / n) j) (now (place / n) j) (line_at n lines from to)) column (so_far.each place within));
+        let place : ℕ = from * n + to in
+        let within : place < length lines = subst (λ k. place < k) (sym many) (mul-add-lt from n to n lf lt) in
+        let row : place / n ≡ from = div-mul-add from n to lt in
+        let column : place % n ≡ to = mod-mul-add from n to lt in
+        subst (λ i. IsMade G (before i to) (now i to) (line_at n lines from to)) row
+        (subst (λ j. IsMade G (before (place / n) j) (now (place / n) j) (line_at n lines from to)) column (so_far.each place within));
   }

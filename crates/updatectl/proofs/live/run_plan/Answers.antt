@@ -31,7 +31,7 @@ returns-in-Ok-opening-clause-live_run g c =
 pub returns-in-Ok-opening-clause-complete : goal.returns-in-Ok-opening-clause-complete
 returns-in-Ok-opening-clause-complete g c =
     let same : IfSome c.run_over.result.journal (λ j. plan_of j ≡ c.args.plan) =
-      some_then (λ j. plan_of j ≡ plan_of c.in-Ok-opening.journal) (λ j. plan_of j ≡ c.args.plan) c.run_over.result.journal (λ j e. e ∙ c.in-Ok-opening.ensures.plan) c.run_over.ensures.plan in
+    some_then (λ j. plan_of j ≡ plan_of c.in-Ok-opening.journal) (λ j. plan_of j ≡ c.args.plan) c.run_over.result.journal (λ j e. e ∙ c.in-Ok-opening.ensures.plan) c.run_over.ensures.plan in
     complete_of g.M.Line.Line (λ j. plan_of j) (λ j. past_of j) c.run_over.result.journal c.args.plan c.run_over.result.status c.args.form c.run_over.result.lines.items
     (g.K.Sink.held c.args.sink.now) (g.K.Sink.held c.run_over.new.sink) (g.M.LineMaker.faults c.args.lines.now) (g.M.LineMaker.faults c.make_lines.new.maker)
     (Rose (g.K.Sink.faults c.args.sink.now) (g.K.Sink.faults c.run_over.new.sink)) (not_none (c.run_over.result.status ≡ statuses.NoMemory) c.run_over.result.journal c.run_over.ensures.there) same
