@@ -72,6 +72,8 @@ text_told statuses.Done before now (Some all) law cause = absurd cause
 text_told statuses.SinkFailed before now (Some all) law cause = absurd cause
 text_told (statuses.Scenario fault) before now (Some all) law cause = absurd cause
 text_told statuses.TurnsSpent before now (Some all) law cause = absurd cause
+text_told (statuses.LineDown from to) before now (Some all) law cause = absurd cause
+text_told (statuses.LineLied from to at put got) before now (Some all) law cause = absurd cause
 
 same_told : (all : List ℕ) (f g : JournalFault) → IsAnsweredOneWay → f ≢ faults.NoMemory → g ≢ faults.NoMemory → ReadFault the_rules all f → ReadFault the_rules all g → journal_refused g ≡ journal_refused f
 same_told all f g law one other first second = ap (λ h. journal_refused h) ((law the_rules all).one_fault g f other one second first)
@@ -91,6 +93,8 @@ fault_told statuses.Done before now (Some all) law cause = absurd cause
 fault_told statuses.SinkFailed before now (Some all) law cause = absurd cause
 fault_told (statuses.Scenario fault) before now (Some all) law cause = absurd cause
 fault_told statuses.TurnsSpent before now (Some all) law cause = absurd cause
+fault_told (statuses.LineDown from to) before now (Some all) law cause = absurd cause
+fault_told (statuses.LineLied from to at put got) before now (Some all) law cause = absurd cause
 
 -- a text that was read has no fault
 pub none_told : (status : Status) (old : Option (List ℕ)) (p : Planned) (es : List Event) → IsAnsweredOneWay → IsGroupRun the_rules p (reverse es) → IfSome old (λ all. IsJournalText all p es)
@@ -122,3 +126,5 @@ is_of_check statuses.Done before now old cause = absurd cause
 is_of_check statuses.SinkFailed before now old cause = absurd cause
 is_of_check (statuses.Scenario fault) before now old cause = absurd cause
 is_of_check statuses.TurnsSpent before now old cause = absurd cause
+is_of_check (statuses.LineDown from to) before now old cause = absurd cause
+is_of_check (statuses.LineLied from to at put got) before now old cause = absurd cause

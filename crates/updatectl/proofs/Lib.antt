@@ -4,3 +4,5 @@ pub mod Serves
 pub mod Rehearsals
 pub mod Scenarios
 pub mod Checks
+pub mod MadeLines
+pub mod LiveRuns

@@ -10,13 +10,13 @@ use Rattle.rehearsal.specs.Ends.{EndsAt}
 use Rattle.rehearsal.specs.FullAtRest.{FullAtRest, GoesOnFullAtRest}
 use Rattle.rehearsal.specs.declared.rehearsed.RehearsalEnd.{RehearsalEnd}
 use Rattle.rehearsal.specs.declared.rehearsed.RehearsalEnd.TheVariants as ends
-use Rattle.updatectl.specs.Causes.{CameBy, IsAfter, IsAt, IsWriting, OrMemory, WroteRun, status_of}
+use Rattle.updatectl.specs.Causes.{CameBy, IsAfter, IsAt, IsWriting, OrMemory, WroteRunOf, status_of}
 use Rattle.updatectl.specs.Recorded.{CameTo, scheduled, the_rules}
 use Rattle.updatectl.specs.Rehearsal.{FollowsSchedule, IsRehearsalOf, KeepsLaws}
 use Rattle.updatectl.specs.Texts.{run_text}
 use Rattle.updatectl.specs.declared.words.Form.{Form}
 use Rattle.updatectl.specs.declared.run_end.End.{End}
-use Rattle.updatectl.specs.declared.run_end.End.TheVariants.{Settled, Spent}
+use Rattle.updatectl.specs.declared.run_end.End.TheVariants.{Settled, Spent, Lied, Down}
 use Rattle.updatectl.specs.declared.outcome.Status.{Status}
 use Rattle.updatectl.specs.declared.outcome.Status.TheVariants as statuses
 
@@ -52,12 +52,30 @@ at_end end (Err faults.NoMemory) = inr (inr refl)
 
 -- Texts ---------------------------------------------------------------------------------------------------------
 
-pub wrote : (form : Form) (plan : Planned) (past : Events) (end : End) (text : List ℕ) (r : Result (Unit {0}) EdgeFault) (old new : Option (List ℕ)) → CameTo end plan past → text ≡ run_text form plan past end
-    → OnOk r (Appends old new text) → OnErr r (AppendsLess old new text) → WroteRun (status_of end r) form plan past old new
-wrote form plan past Settled text (Ok x) old new came is whole less = (came, subst (λ t. Appends old new t) is whole)
-wrote form plan past Spent text (Ok x) old new came is whole less = (came, subst (λ t. Appends old new t) is whole)
-wrote form plan past end text (Err faults.Failed) old new came is whole less = (end, came, subst (λ t. AppendsLess old new t) is less)
-wrote form plan past end text (Err faults.NoMemory) old new came is whole less = inr (end, came, subst (λ t. AppendsLess old new t) is less)
+pub wrote : (form : Form) (plan : Planned) (past : Events) (end : End) (text : List ℕ) (r : Result (Unit {0}) EdgeFault) (old new : Option (List ℕ)) → text ≡ run_text form plan past end
+    → OnOk r (Appends old new text) → OnErr r (AppendsLess old new text) → WroteRunOf (λ other. other ≡ end) (status_of end r) form plan past old new
+wrote form plan past Settled text (Ok x) old new is whole less = (refl, subst (λ t. Appends old new t) is whole)
+wrote form plan past Spent text (Ok x) old new is whole less = (refl, subst (λ t. Appends old new t) is whole)
+wrote form plan past (Lied from to at put got) text (Ok x) old new is whole less = (refl, subst (λ t. Appends old new t) is whole)
+wrote form plan past (Down from to) text (Ok x) old new is whole less = (refl, subst (λ t. Appends old new t) is whole)
+wrote form plan past end text (Err faults.Failed) old new is whole less = (end, refl, subst (λ t. AppendsLess old new t) is less)
+wrote form plan past end text (Err faults.NoMemory) old new is whole less = inr (end, refl, subst (λ t. AppendsLess old new t) is less)
+
+-- what was written of the end that the run came to
+pub wrote_of : (Came : End → Type 0) (end : End) (status : Status) (form : Form) (plan : Planned) (past : Events) (old new : Option (List ℕ)) → Came end
+    → WroteRunOf (λ other. other ≡ end) status form plan past old new → WroteRunOf Came status form plan past old new
+wrote_of Came end statuses.Done form plan past old new came w = (subst Came (sym w.0) came, w.1)
+wrote_of Came end statuses.TurnsSpent form plan past old new came w = (subst Came (sym w.0) came, w.1)
+wrote_of Came end (statuses.LineLied from to at put got) form plan past old new came w = (subst Came (sym w.0) came, w.1)
+wrote_of Came end (statuses.LineDown from to) form plan past old new came w = (subst Came (sym w.0) came, w.1)
+wrote_of Came end statuses.SinkFailed form plan past old new came w = (w.0, subst Came (sym w.1) came, w.2)
+wrote_of Came end statuses.NoMemory form plan past old new came (inl keeps) = inl keeps
+wrote_of Came end statuses.NoMemory form plan past old new came (inr w) = inr (w.0, subst Came (sym w.1) came, w.2)
+wrote_of Came end statuses.Words form plan past old new came w = absurd w
+wrote_of Came end statuses.SourceFailed form plan past old new came w = absurd w
+wrote_of Came end (statuses.Scenario fault) form plan past old new came w = absurd w
+wrote_of Came end (statuses.NotARun place) form plan past old new came w = absurd w
+wrote_of Came end (statuses.JournalRefused fault) form plan past old new came w = absurd w
 
 -- Rehearsals ----------------------------------------------------------------------------------------------------
 

@@ -20,7 +20,7 @@ use Rattle.updatectl.specs.declared.words.Rehearse.{Rehearse}
 use Rattle.updatectl.specs.Texts.{run_text}
 use Rattle.updatectl.specs.declared.words.Form.{Form}
 use Rattle.updatectl.specs.declared.run_end.End.{End}
-use Rattle.updatectl.specs.declared.run_end.End.TheVariants.{Settled, Spent}
+use Rattle.updatectl.specs.declared.run_end.End.TheVariants.{Settled, Spent, Lied, Down}
 use Rattle.updatectl.specs.declared.outcome.Status.{Status}
 use Rattle.updatectl.specs.declared.outcome.Status.TheVariants as statuses
 
@@ -46,12 +46,16 @@ IsRefusal (statuses.JournalRefused fault) = Unit {0}
 IsRefusal statuses.Done = ⊥
 IsRefusal statuses.SinkFailed = ⊥
 IsRefusal statuses.TurnsSpent = ⊥
+IsRefusal (statuses.LineDown from to) = ⊥
+IsRefusal (statuses.LineLied from to at put got) = ⊥
 IsRefusal statuses.NoMemory = ⊥
 
 -- the status of a run that came to this end, where its text was written whole
 abbrev pub status_at : End → Status
 status_at Settled = statuses.Done
 status_at Spent = statuses.TurnsSpent
+status_at (Lied from to at put got) = statuses.LineLied from to at put got
+status_at (Down from to) = statuses.LineDown from to
 
 -- the status of a run that came to this end, by how the writing of its text went
 abbrev pub status_of : End → Result ⊤ EdgeFault → Status
@@ -67,6 +71,8 @@ ScenarioCause statuses.Words before now old = ⊥
 ScenarioCause statuses.Done before now old = ⊥
 ScenarioCause statuses.SinkFailed before now old = ⊥
 ScenarioCause statuses.TurnsSpent before now old = ⊥
+ScenarioCause (statuses.LineDown from to) before now old = ⊥
+ScenarioCause (statuses.LineLied from to at put got) before now old = ⊥
 ScenarioCause (statuses.NotARun place) before now old = ⊥
 ScenarioCause (statuses.JournalRefused fault) before now old = ⊥
 
@@ -77,18 +83,24 @@ PlanFrom (Err status) before now old new = ScenarioCause status before now old
 
 -- Runs ----------------------------------------------------------------------------------------------------------
 
--- What the sink got of a run's text, which ends with the line of the run's end: all of it, or at a fault of the sink a
--- prefix that is not all of it. At want of memory such a prefix too, or nothing where there was no text yet.
+-- What the sink got of a run's text, which ends with the line of an end that the run came to: all of it, or at a fault of the
+-- sink a prefix that is not all of it. At want of memory such a prefix too, or nothing where there was no text yet.
+abbrev pub WroteRunOf : (End → Type 0) → Status → Form → Planned → Events → Option (List ℕ) → Option (List ℕ) → Type 0
+WroteRunOf Came statuses.Done form plan past old new = Came Settled × Appends old new (run_text form plan past Settled)
+WroteRunOf Came statuses.TurnsSpent form plan past old new = Came Spent × Appends old new (run_text form plan past Spent)
+WroteRunOf Came (statuses.LineLied from to at put got) form plan past old new = Came (Lied from to at put got) × Appends old new (run_text form plan past (Lied from to at put got))
+WroteRunOf Came (statuses.LineDown from to) form plan past old new = Came (Down from to) × Appends old new (run_text form plan past (Down from to))
+WroteRunOf Came statuses.SinkFailed form plan past old new = (end : End) × Came end × AppendsLess old new (run_text form plan past end)
+WroteRunOf Came statuses.NoMemory form plan past old new = Keeps old new ⊎ ((end : End) × Came end × AppendsLess old new (run_text form plan past end))
+WroteRunOf Came statuses.Words form plan past old new = ⊥
+WroteRunOf Came statuses.SourceFailed form plan past old new = ⊥
+WroteRunOf Came (statuses.Scenario fault) form plan past old new = ⊥
+WroteRunOf Came (statuses.NotARun place) form plan past old new = ⊥
+WroteRunOf Came (statuses.JournalRefused fault) form plan past old new = ⊥
+
+-- the same of a run without lines
 abbrev pub WroteRun : Status → Form → Planned → Events → Option (List ℕ) → Option (List ℕ) → Type 0
-WroteRun statuses.Done form plan past old new = CameTo Settled plan past × Appends old new (run_text form plan past Settled)
-WroteRun statuses.TurnsSpent form plan past old new = CameTo Spent plan past × Appends old new (run_text form plan past Spent)
-WroteRun statuses.SinkFailed form plan past old new = (end : End) × CameTo end plan past × AppendsLess old new (run_text form plan past end)
-WroteRun statuses.NoMemory form plan past old new = Keeps old new ⊎ ((end : End) × CameTo end plan past × AppendsLess old new (run_text form plan past end))
-WroteRun statuses.Words form plan past old new = ⊥
-WroteRun statuses.SourceFailed form plan past old new = ⊥
-WroteRun (statuses.Scenario fault) form plan past old new = ⊥
-WroteRun (statuses.NotARun place) form plan past old new = ⊥
-WroteRun (statuses.JournalRefused fault) form plan past old new = ⊥
+WroteRun status form plan past old new = WroteRunOf (λ end. CameTo end plan past) status form plan past old new
 
 -- what is known of a run where its schedule ended so
 abbrev pub CameBy : RehearsalEnd → Planned → Events → Type 0
@@ -122,6 +134,8 @@ IsOfScenario (statuses.Scenario fault) = Unit {0}
 IsOfScenario statuses.TurnsSpent = Unit {0}
 IsOfScenario statuses.NoMemory = Unit {0}
 IsOfScenario statuses.Words = ⊥
+IsOfScenario (statuses.LineDown from to) = ⊥
+IsOfScenario (statuses.LineLied from to at put got) = ⊥
 IsOfScenario (statuses.NotARun place) = ⊥
 IsOfScenario (statuses.JournalRefused fault) = ⊥
 
@@ -140,4 +154,6 @@ RefusalCause (statuses.JournalRefused fault) asked before now old = (asked ≡ S
 RefusalCause statuses.Done asked before now old = ⊥
 RefusalCause statuses.SinkFailed asked before now old = ⊥
 RefusalCause statuses.TurnsSpent asked before now old = ⊥
+RefusalCause (statuses.LineDown from to) asked before now old = ⊥
+RefusalCause (statuses.LineLied from to at put got) asked before now old = ⊥
 RefusalCause statuses.NoMemory asked before now old = ⊥

@@ -40,6 +40,8 @@ JournalCause statuses.Done before now old = ⊥
 JournalCause statuses.SinkFailed before now old = ⊥
 JournalCause (statuses.Scenario fault) before now old = ⊥
 JournalCause statuses.TurnsSpent before now old = ⊥
+JournalCause (statuses.LineDown from to) before now old = ⊥
+JournalCause (statuses.LineLied from to at put got) before now old = ⊥
 
 -- the statuses of a journal's text that is read and reported
 abbrev pub IsOfCheck : Status → Type 0
@@ -52,6 +54,8 @@ IsOfCheck (statuses.JournalRefused fault) = Unit {0}
 IsOfCheck statuses.Words = ⊥
 IsOfCheck (statuses.Scenario fault) = ⊥
 IsOfCheck statuses.TurnsSpent = ⊥
+IsOfCheck (statuses.LineDown from to) = ⊥
+IsOfCheck (statuses.LineLied from to at put got) = ⊥
 
 -- how the writing of a text may end
 abbrev pub IsWritten : Status → Type 0
@@ -72,6 +76,8 @@ WroteText statuses.Words text old new = ⊥
 WroteText statuses.SourceFailed text old new = ⊥
 WroteText (statuses.Scenario fault) text old new = ⊥
 WroteText statuses.TurnsSpent text old new = ⊥
+WroteText (statuses.LineDown from to) text old new = ⊥
+WroteText (statuses.LineLied from to at put got) text old new = ⊥
 WroteText (statuses.NotARun place) text old new = ⊥
 WroteText (statuses.JournalRefused fault) text old new = ⊥
 

@@ -43,6 +43,8 @@ FollowsSchedule statuses.Words plan past whole = ⊥
 FollowsSchedule statuses.SourceFailed plan past whole = ⊥
 FollowsSchedule (statuses.Scenario fault) plan past whole = ⊥
 FollowsSchedule (statuses.NotARun place) plan past whole = ⊥
+FollowsSchedule (statuses.LineDown from to) plan past whole = ⊥
+FollowsSchedule (statuses.LineLied from to at put got) plan past whole = ⊥
 FollowsSchedule (statuses.JournalRefused fault) plan past whole = ⊥
 
 -- What is true of the events of a journal that came with this status.

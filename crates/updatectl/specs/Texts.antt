@@ -1,5 +1,6 @@
 -- The texts that the sink gets.
-use Rattle.std.specs.Prelude.{ℕ, true, false, List, [], ◌++◌, codes, decimal, reverse}
+use Rattle.std.specs.Prelude.{ℕ, true, false, ◌/◌, ◌%◌, List, [], ◌∷◌, ◌++◌, codes, decimal, reverse}
+use Rattle.std.specs.Fmt.{digit_glyph}
 use Rattle.scenario.specs.declared.fault.ScenarioFault.{ScenarioFault}
 use Rattle.scenario.specs.declared.fault.ScenarioFault.TheVariants as faults
 use Rattle.scenario.specs.declared.fault.Reason.{Reason}
@@ -16,7 +17,7 @@ use Rattle.updatectl.specs.declared.outcome.Status.TheVariants as statuses
 use Rattle.updatectl.specs.declared.words.Form.{Form}
 use Rattle.updatectl.specs.declared.words.Form.TheVariants.{Long, Short, Journal}
 use Rattle.updatectl.specs.declared.run_end.End.{End}
-use Rattle.updatectl.specs.declared.run_end.End.TheVariants.{Settled, Spent}
+use Rattle.updatectl.specs.declared.run_end.End.TheVariants.{Settled, Spent, Lied, Down}
 
 -- a reason in words
 abbrev pub reason_text : Reason → List ℕ
@@ -55,14 +56,31 @@ refusal_text (statuses.Scenario fault) = fault_text fault
 refusal_text statuses.Done = []
 refusal_text statuses.SinkFailed = []
 refusal_text statuses.TurnsSpent = []
+refusal_text (statuses.LineDown from to) = []
+refusal_text (statuses.LineLied from to at put got) = []
 refusal_text statuses.NoMemory = []
 refusal_text (statuses.NotARun place) = codes "not a run: event " ++ decimal place ++ codes "\n"
 refusal_text (statuses.JournalRefused fault) = journal_fault_text fault
+
+-- a byte as two hexadecimal digits, in lower case
+unfoldable pub two_digits : ℕ → List ℕ
+two_digits byte = digit_glyph false (byte / 16) ∷ digit_glyph false (byte % 16) ∷ []
+
+unfoldable pub lied_text : ℕ → ℕ → ℕ → List ℕ → List ℕ → List ℕ
+lied_text from to at put got = codes "end: line " ++ decimal from ++ codes " " ++ decimal to ++ codes " lied at " ++ decimal at ++ codes ": put " ++ put ++ codes ", got " ++ got ++ codes "\n"
+
+abbrev pub lied_line : ℕ → ℕ → ℕ → ℕ → ℕ → List ℕ
+lied_line from to at put got = lied_text from to at (two_digits put) (two_digits got)
+
+unfoldable pub down_line : ℕ → ℕ → List ℕ
+down_line from to = codes "end: line " ++ decimal from ++ codes " " ++ decimal to ++ codes " down\n"
 
 -- the last line of a run's text
 abbrev pub end_line : End → List ℕ
 end_line Settled = codes "end: settled\n"
 end_line Spent = codes "end: turns spent\n"
+end_line (Lied from to at put got) = lied_line from to at put got
+end_line (Down from to) = down_line from to
 
 -- the report of a run with its end line, or its journal's text
 unfoldable pub run_text : Form → Planned → Events → End → List ℕ
@@ -81,7 +99,9 @@ code_of statuses.Words = 2
 code_of statuses.SourceFailed = 3
 code_of statuses.SinkFailed = 4
 code_of (statuses.Scenario fault) = 5
+code_of (statuses.LineDown from to) = 6
 code_of statuses.TurnsSpent = 7
+code_of (statuses.LineLied from to at put got) = 8
 code_of statuses.NoMemory = 9
 code_of (statuses.NotARun place) = 10
 code_of (statuses.JournalRefused fault) = 11

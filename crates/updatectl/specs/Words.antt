@@ -5,6 +5,9 @@ use Rattle.updatectl.specs.declared.words.Form.{Form}
 use Rattle.updatectl.specs.declared.words.Form.TheVariants.{Long, Short, Journal}
 use Rattle.updatectl.specs.declared.words.Rehearse.{Rehearse}
 use Rattle.updatectl.specs.declared.words.Generate.{Generate}
+use Rattle.updatectl.specs.declared.words.LineKind.{LineKind}
+use Rattle.updatectl.specs.declared.words.LineKind.TheVariants.{Memory, Loopback}
+use Rattle.updatectl.specs.declared.words.Run.{Run}
 use Rattle.updatectl.specs.declared.words.Command.{Command}
 use Rattle.updatectl.specs.declared.words.Command.TheVariants as commands
 
@@ -78,3 +81,29 @@ named first rest =
 abbrev pub command : List (List ℕ) → Option Command
 command [] = None
 command (first ∷ rest) = named first rest
+
+-- memory|loopback
+unfoldable pub line_kind : List ℕ → Option LineKind
+line_kind word = if bytes_eq word (codes "memory") then Some Memory else if bytes_eq word (codes "loopback") then Some Loopback else None
+
+abbrev pub over_lines : LineKind → Option Form → Option Run
+over_lines over None = None
+over_lines over (Some form) = Some (record { over = over; form = form })
+
+abbrev pub with_lines : LineKind → List (List ℕ) → Option Run
+with_lines over [] = Some (record { over = over; form = Long })
+with_lines over (word ∷ []) = over_lines over (form_named word)
+with_lines over (word ∷ more ∷ rest) = None
+
+abbrev pub behind_lines : Option LineKind → List (List ℕ) → Option Run
+behind_lines None rest = None
+behind_lines (Some over) rest = with_lines over rest
+
+abbrev pub run_asked : List (List ℕ) → Option Run
+run_asked [] = None
+run_asked (word ∷ rest) = behind_lines (line_kind word) rest
+
+-- run memory|loopback [short|journal]
+abbrev pub run_of : List (List ℕ) → Option Run
+run_of [] = None
+run_of (first ∷ rest) = if bytes_eq first (codes "run") then run_asked rest else None

@@ -6,6 +6,8 @@ mod check;
 mod generate;
 mod journal;
 mod journal_input;
+mod live;
+mod making;
 mod outcome;
 mod refusals;
 mod run_end;
@@ -17,11 +19,21 @@ mod top;
 mod words;
 mod writing;
 
+use line_fakes::SureLines;
+use live::live;
+use loop_link::LoopLines;
+use outcome::Status;
+use std::alloc::Global;
 use std::env;
 use std::io::{Error, ErrorKind};
+use std::net::Net;
 use std::process::ExitCode;
+use std::sync::Wait;
+use std::thread::Threads;
 use std_edge::{StdSink, StdSource};
 use top::plain;
+use upd_base::{Sink, Source};
+use worker_gates::OpenGate;
 
 /// The words without the program's name. Arguments that are no text count as one empty word, which is no
 /// command.
@@ -40,14 +52,45 @@ fn words_of(rt: &HostRuntime) -> Result<Vec<String>, Error> {
     Ok(words)
 }
 
+/// Runs a scenario with threads, over lines in memory where the second word names them and else over sockets.
+fn run<S: Source, K: Sink, N: Net + Drop, R: Threads + Wait + Sync>(
+    rt: &R,
+    net: N,
+    alloc: Global,
+    words: &[String],
+    source: &mut S,
+    sink: &mut K,
+) -> Status
+where
+    N::Stream: Send,
+{
+    match words {
+        [_, over, ..] if over.as_str() == "memory" => {
+            let mut lines = SureLines::new(alloc);
+            live(rt, alloc, words, source, sink, &mut lines, &OpenGate).status
+        }
+        _ => {
+            let mut lines = LoopLines::new(net);
+            live(rt, alloc, words, source, sink, &mut lines, &OpenGate).status
+        }
+    }
+}
+
 fn main(rt: HostRuntime) -> ExitCode {
     let Ok(words) = words_of(&rt) else {
-        return ExitCode::from(outcome::Status::NoMemory.code());
+        return ExitCode::from(Status::NoMemory.code());
     };
+    let alloc = rt.alloc();
+    let words = words.as_slice();
     let mut source = StdSource::new(rt.stdin());
     let mut sink = StdSink::new(rt.stdout());
-    let outcome = plain(rt.alloc(), words.as_slice(), &mut source, &mut sink);
-    ExitCode::from(outcome.status.code())
+    let status = match words {
+        [first, ..] if first.as_str() == "run" => {
+            run(&rt, rt, alloc, words, &mut source, &mut sink)
+        }
+        _ => plain(alloc, words, &mut source, &mut sink).status,
+    };
+    ExitCode::from(status.code())
 }
 
 #[cfg(test)]

@@ -2,6 +2,7 @@ use journal_file::JournalFault;
 use module_binding::Module;
 use run_journal::Journal;
 use scenario::ScenarioFault;
+use upd_base::MemberId;
 
 /// How the program ended.
 #[derive(Drop)]
@@ -17,8 +18,23 @@ pub enum Status {
     SinkFailed,
     /// The scenario is refused.
     Scenario(ScenarioFault),
+    /// The line of this link failed in the run, or could not be made, and what is left could only be received over lines
+    /// that are down.
+    LineDown {
+        from: MemberId,
+        to: MemberId,
+    },
     /// The run made as many events as the plan's bound and is not settled.
     TurnsSpent,
+    /// The line of this link gave another byte than was put: `got` in the place of `put`, at this place of its bytes,
+    /// counted from 0. What is left could only be received over lines that are down or lied.
+    LineLied {
+        from: MemberId,
+        to: MemberId,
+        at: u64,
+        put: u8,
+        got: u8,
+    },
     /// A request for memory was refused.
     NoMemory,
     /// The journal's text is good, but this event, from 1, is the first that can't be made at its place or is answered
@@ -28,8 +44,8 @@ pub enum Status {
     JournalRefused(JournalFault),
 }
 
-/// What the program did: how it ended, the journal of the run that it made or read, and its lines, of which
-/// there are none so far.
+/// What the program did: how it ended, the journal of the run that it made or read, and the lines of a run with
+/// threads, that of the link from `from` to `to` of n members at `from * n + to`, None where it could not be made.
 #[derive(Drop)]
 pub struct Outcome<L> {
     pub status: Status,
@@ -51,7 +67,9 @@ impl Status {
             Status::SourceFailed => 3,
             Status::SinkFailed => 4,
             Status::Scenario(_) => 5,
+            Status::LineDown { .. } => 6,
             Status::TurnsSpent => 7,
+            Status::LineLied { .. } => 8,
             Status::NoMemory => 9,
             Status::NotARun(_) => 10,
             Status::JournalRefused(_) => 11,

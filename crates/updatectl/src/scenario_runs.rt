@@ -134,8 +134,8 @@ fn write_end<K: Sink>(
     ensures cause { result ≡ Status.SinkFailed → Rose (K.faults sink.old) (K.faults sink.new) }
 {
     match end {
-        RehearsalEnd::Settled => write_run(alloc, form, journal, End::Settled, sink),
-        RehearsalEnd::Spent => write_run(alloc, form, journal, End::Spent, sink),
+        RehearsalEnd::Settled => write_run(alloc, form, journal, &End::Settled, sink),
+        RehearsalEnd::Spent => write_run(alloc, form, journal, &End::Spent, sink),
         RehearsalEnd::NoMemory => Status::NoMemory,
     }
 }

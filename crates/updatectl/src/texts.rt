@@ -3,7 +3,7 @@ ghost use Rattle.std.specs.Prelude.{◌≡◌, ◌++◌, IfOk, string_bytes};
 ghost use Rattle.run_report.specs.Report.{report};
 ghost use Rattle.updatectl.specs.Recorded.{the_rules};
 ghost use Rattle.run_journal.specs.Journal.{plan_of, past_of};
-ghost use Rattle.updatectl.specs.Texts.{checked_text, end_line, fault_text, journal_fault_text, reason_text, refusal_text, run_text, usage};
+ghost use Rattle.updatectl.specs.Texts.{checked_text, down_line, end_line, fault_text, journal_fault_text, lied_line, lied_text, reason_text, refusal_text, run_text, two_digits, usage};
 
 use crate::outcome::Status;
 use crate::run_end::End;
@@ -68,9 +68,12 @@ pub(crate) fn refusal_text(alloc: Global, status: &Status) -> Result<Vec<u8>, Al
         Status::Words => Vec::from_slice(alloc, usage().as_bytes()),
         Status::SourceFailed => Vec::from_slice(alloc, b"source failed\n"),
         Status::Scenario(fault) => fault_text(alloc, fault),
-        Status::Done | Status::SinkFailed | Status::TurnsSpent | Status::NoMemory => {
-            Ok(Vec::new(alloc))
-        }
+        Status::Done
+        | Status::SinkFailed
+        | Status::LineDown { .. }
+        | Status::TurnsSpent
+        | Status::LineLied { .. }
+        | Status::NoMemory => Ok(Vec::new(alloc)),
         Status::NotARun(place) => text_of(format!(in alloc; "not a run: event {}\n", *place)?),
         Status::JournalRefused(fault) => journal_fault_text(alloc, fault),
     }
@@ -101,13 +104,13 @@ pub(crate) fn run_text(
     alloc: Global,
     form: Form,
     journal: &Journal<Module>,
-    end: End,
+    end: &End,
 ) -> Result<Vec<u8>, NoMemory>
-    ensures { IfOk result (λ text. text.items ≡ run_text form (plan_of journal.now) (past_of journal.now) end) }
+    ensures { IfOk result (λ text. text.items ≡ run_text form (plan_of journal.now) (past_of journal.now) end.now) }
 {
     match form {
-        Form::Long => report_with(alloc, journal, false, end_line(end)),
-        Form::Short => report_with(alloc, journal, true, end_line(end)),
+        Form::Long => report_with(alloc, journal, false, end_line(alloc, end)?.as_str()),
+        Form::Short => report_with(alloc, journal, true, end_line(alloc, end)?.as_str()),
         Form::Journal => journal_text(alloc, journal),
     }
 }
@@ -134,11 +137,60 @@ fn report_with(
     Ok(text)
 }
 
-fn end_line(end: End) -> &'static str
-    ensures { result.now ≡ end_line end }
+fn end_line(alloc: Global, end: &End) -> Result<String, AllocError>
+    ensures { IfOk result (λ line. string_bytes line ≡ end_line end.now) }
 {
-    match end {
-        End::Settled => "end: settled\n",
-        End::Spent => "end: turns spent\n",
+    match *end {
+        End::Settled => String::from_str(alloc, "end: settled\n"),
+        End::Spent => String::from_str(alloc, "end: turns spent\n"),
+        End::Lied {
+            from,
+            to,
+            at,
+            put,
+            got,
+        } => lied_line(alloc, from.get(), to.get(), at, put, got),
+        End::Down { from, to } => down_line(alloc, from.get(), to.get()),
     }
+}
+
+fn lied_line(
+    alloc: Global,
+    from: u8,
+    to: u8,
+    at: u64,
+    put: u8,
+    got: u8,
+) -> Result<String, AllocError>
+    ensures { IfOk result (λ line. string_bytes line ≡ lied_line from to at put got) }
+{
+    let put = two_digits(alloc, put)?;
+    let got = two_digits(alloc, got)?;
+    lied_text(alloc, from, to, at, put.as_str(), got.as_str())
+}
+
+fn lied_text(
+    alloc: Global,
+    from: u8,
+    to: u8,
+    at: u64,
+    put: &str,
+    got: &str,
+) -> Result<String, AllocError>
+    ensures { IfOk result (λ line. string_bytes line ≡ lied_text from to at put.now got.now) }
+{
+    format!(in alloc; "end: line {from} {to} lied at {at}: put {put}, got {got}\n")
+}
+
+fn down_line(alloc: Global, from: u8, to: u8) -> Result<String, AllocError>
+    ensures { IfOk result (λ line. string_bytes line ≡ down_line from to) }
+{
+    format!(in alloc; "end: line {from} {to} down\n")
+}
+
+#[tactic(auto, using(std::proofs::lemmas::Fmt::hex_byte), unfolding(crate::specs::Texts::two_digits))]
+fn two_digits(alloc: Global, byte: u8) -> Result<String, AllocError>
+    ensures { IfOk result (λ text. string_bytes text ≡ two_digits byte) }
+{
+    format!(in alloc; "{byte:02x}")
 }

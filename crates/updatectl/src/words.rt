@@ -4,7 +4,7 @@ ghost use Rattle.std.specs.Char.{is_ascii_digit};
 ghost use Rattle.std.specs.Str.{all_ascii_digits};
 ghost use Rattle.updatectl.specs.declared.words.Generate.{Generate};
 ghost use Rattle.updatectl.specs.declared.words.Command.TheVariants as commands;
-ghost use Rattle.updatectl.specs.Words.{calls_of, check_of, command, form_named, generate_of, in_range, is_seed_text, named, rehearse_of, seed_of, with_seed};
+ghost use Rattle.updatectl.specs.Words.{calls_of, check_of, command, form_named, generate_of, in_range, is_seed_text, line_kind, named, rehearse_of, run_asked, run_of, seed_of, with_lines, with_seed};
 
 /// How a run is reported.
 #[derive(Clone, Copy, Debug, PartialEq, Eq)]
@@ -28,6 +28,20 @@ pub struct Generate {
     pub seed: u64,
     /// How many calls: 1 to 1,000.
     pub calls: u16,
+}
+
+/// The lines that a run with threads goes over.
+#[derive(Clone, Copy, Debug, PartialEq, Eq)]
+pub enum LineKind {
+    Memory,
+    Loopback,
+}
+
+/// What `run` is asked for.
+#[derive(Clone, Copy, Debug, PartialEq, Eq)]
+pub struct Run {
+    pub over: LineKind,
+    pub form: Form,
 }
 
 /// What the program is asked for.
@@ -186,5 +200,58 @@ pub(crate) fn command_of(words: &[String]) -> Option<Command>
     match words {
         [first, rest @ ..] => named(first.as_str(), rest),
         [] => None,
+    }
+}
+
+/// The kind of lines of this name.
+#[tactic(auto, unfolding(crate::specs::Words::line_kind))]
+fn line_kind(word: &str) -> Option<LineKind>
+    ensures { result ≡ line_kind word.now }
+{
+    if word == "memory" {
+        return Some(LineKind::Memory);
+    }
+    if word == "loopback" {
+        return Some(LineKind::Loopback);
+    }
+    None
+}
+
+fn with_lines(over: LineKind, words: &[String]) -> Option<Run>
+    ensures { result ≡ with_lines over (map string_bytes words.now) }
+{
+    match words {
+        [] => Some(Run {
+            over,
+            form: Form::Long,
+        }),
+        [word] => match form_named(word.as_str()) {
+            Some(form) => Some(Run { over, form }),
+            None => None,
+        },
+        _ => None,
+    }
+}
+
+/// What the words behind `run` ask for.
+fn run_asked(words: &[String]) -> Option<Run>
+    ensures { result ≡ run_asked (map string_bytes words.now) }
+{
+    match words {
+        [word, rest @ ..] => match line_kind(word.as_str()) {
+            Some(over) => with_lines(over, rest),
+            None => None,
+        },
+        [] => None,
+    }
+}
+
+/// What the words ask for, where the first is `run`.
+pub(crate) fn run_of(words: &[String]) -> Option<Run>
+    ensures { result ≡ run_of (map string_bytes words.now) }
+{
+    match words {
+        [first, rest @ ..] if first.as_str() == "run" => run_asked(rest),
+        _ => None,
     }
 }

@@ -2,8 +2,7 @@
 ghost use Rattle.std.specs.Prelude.{◌≡◌};
 ghost use Rattle.upd_base.specs.Edge.{Rose};
 ghost use Rattle.run_journal.specs.Journal.{plan_of, past_of};
-ghost use Rattle.updatectl.specs.Recorded.{CameTo};
-ghost use Rattle.updatectl.specs.Causes.{IsAt, WroteRun, status_at, status_of};
+ghost use Rattle.updatectl.specs.Causes.{IsAt, WroteRunOf, status_at, status_of};
 ghost use Rattle.updatectl.specs.Checked.{IsWritten, WroteText, unwritten};
 ghost use Rattle.updatectl.specs.declared.outcome.Status.{Status};
 
@@ -22,23 +21,25 @@ pub(crate) fn write_run<K: Sink>(
     alloc: Global,
     form: Form,
     journal: &Journal<Module>,
-    end: End,
+    end: &End,
     sink: &mut K,
 ) -> Status
-    requires { CameTo end (plan_of journal.now) (past_of journal.now) }
-    ensures status { IsAt end result }
-    ensures wrote { WroteRun result form (plan_of journal.now) (past_of journal.now) (K.held sink.old) (K.held sink.new) }
+    ensures status { IsAt end.now result }
+    ensures wrote { WroteRunOf (λ other. other ≡ end.now) result form (plan_of journal.now) (past_of journal.now) (K.held sink.old) (K.held sink.new) }
     ensures cause { result ≡ Status.SinkFailed → Rose (K.faults sink.old) (K.faults sink.new) }
 {
     match run_text(alloc, form, journal, end) {
-        Ok(text) => written(end, write_all(sink, text.as_slice())),
+        Ok(text) => {
+            let wrote = write_all(sink, text.as_slice());
+            written(end, wrote)
+        }
         Err(NoMemory) => Status::NoMemory,
     }
 }
 
 /// The status of a run that came to this end, by how the writing of its text went.
-fn written(end: End, wrote: Result<(), EdgeFault>) -> Status
-    ensures { result ≡ status_of end wrote }
+fn written(end: &End, wrote: Result<(), EdgeFault>) -> Status
+    ensures { result ≡ status_of end.now wrote }
 {
     match wrote {
         Ok(()) => whole(end),
@@ -46,12 +47,26 @@ fn written(end: End, wrote: Result<(), EdgeFault>) -> Status
     }
 }
 
-fn whole(end: End) -> Status
-    ensures { result ≡ status_at end }
+fn whole(end: &End) -> Status
+    ensures { result ≡ status_at end.now }
 {
-    match end {
+    match *end {
         End::Settled => Status::Done,
         End::Spent => Status::TurnsSpent,
+        End::Lied {
+            from,
+            to,
+            at,
+            put,
+            got,
+        } => Status::LineLied {
+            from,
+            to,
+            at,
+            put,
+            got,
+        },
+        End::Down { from, to } => Status::LineDown { from, to },
     }
 }
 
