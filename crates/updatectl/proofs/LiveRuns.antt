@@ -1,5 +1,5 @@
 -- What a run over lines promises, from how its threads ended it.
-use Rattle.std.proofs.Common.{ℕ, ◌≡◌, ◌∙◌, ◌⊎◌, inl, inr, ◌+◌, ◌*◌, ◌<◌, ◌≤◌, true, false, List, [], ◌∷◌, ◌++◌, length, append-nil, Option, Some, None, IfSome, IfNone, IsSome, refl, sym, ap, subst, arith}
+use Rattle.std.proofs.Common.{ℕ, ◌≡◌, ◌∙◌, inl, inr, ◌+◌, ◌<◌, true, false, List, [], ◌∷◌, ◌++◌, length, append-nil, Option, Some, None, IfSome, IfNone, IsSome, refl, sym, ap, subst, arith}
 use Rattle.upd_base.specs.Edge.{Rose}
 use Rattle.upd_base.specs.Plan.{Planned}
 use Rattle.upd_base.specs.declared.event.Event.{Event}
@@ -9,9 +9,9 @@ use Rattle.upd_lines.specs.Line.{Told}
 use Rattle.upd_lines.specs.declared.line.Line.{Ghosts}
 use Rattle.group_run.specs.Group.{Rules}
 use Rattle.group_run.specs.Run.{Events, crashed_in}
-use Rattle.group_run.specs.Settled.{IsSettled, IsQuiet}
+use Rattle.group_run.specs.Settled.{IsSettled}
 use Rattle.group_members.proofs.Quiet.{quiet_run}
-use Rattle.rehearsal.specs.FullAtRest.{FullAtRest, FullOnlyAtRest, IsAtRest}
+use Rattle.rehearsal.specs.FullAtRest.{FullAtRest, FullOnlyAtRest}
 use Rattle.line_rules.specs.Ends.{EndsRun, IsDownEnd, IsLyingEnd, ToldLie}
 use Rattle.line_rules.specs.Received.{carried, next_bytes}
 use Rattle.line_rules.specs.Lines.{CameBack, ComeBack, HasCarried, IsAside, IsAsideLine, IsDownLine, IsLying, line_at}
@@ -20,8 +20,8 @@ use Rattle.line_rules.specs.declared.line_state.Lie.{Lie}
 use Rattle.line_rules.specs.declared.run_end.RunEnd.{RunEnd}
 use Rattle.planned_calls.specs.Calls.{HasNo, is_crash, is_suspect}
 use Rattle.planned_calls.specs.Sends.{DeliversSends}
-use Rattle.updatectl.specs.Causes.{OrMemory, WroteRunOf}
-use Rattle.updatectl.specs.Live.{AreFaithful, AreSteady, IsComplete, IsFaithful, IsLied, IsLiveRun, IsRunOver, IsRunStatus, IsSteady, WroteOver, told_end}
+use Rattle.updatectl.specs.Causes.{WroteRunOf}
+use Rattle.updatectl.specs.Live.{AreSteady, IsComplete, IsFaithful, IsLiveRun, IsRunStatus, IsSteady, WroteOver, told_end}
 use Rattle.updatectl.specs.Made.{AreMade, IsMade}
 use Rattle.updatectl.specs.Recorded.{CameTo, the_rules}
 use Rattle.updatectl.specs.Rehearsal.{KeepsLaws}

@@ -1,15 +1,13 @@
 -- What a run with threads promises.
-use Rattle.std.specs.Prelude.{ℕ, true, ◌≡◌, ◌⊎◌, ◌+◌, ◌*◌, ◌<◌, List, [], length, Option, Some, None}
+use Rattle.std.specs.Prelude.{ℕ, true, ◌≡◌, ◌⊎◌, ◌<◌, List, [], Option, Some, None}
 use Rattle.upd_base.specs.Edge.{Rose}
 use Rattle.upd_base.specs.Plan.{Planned}
-use Rattle.upd_lines.specs.Line.{IsFresh, Told}
 use Rattle.upd_lines.specs.declared.line.Line.{Ghosts}
 use Rattle.group_run.specs.Run.{Events}
 use Rattle.group_run.specs.Settled.{IsTrusting}
 use Rattle.line_rules.specs.Ends.{EndsRun, IsDownEnd, IsLyingEnd}
-use Rattle.line_rules.specs.Lines.{ComeBack, HasCarried, IsAside, line_at}
+use Rattle.line_rules.specs.Lines.{ComeBack, IsAside, line_at}
 use Rattle.line_rules.specs.Rest.{GoesOnFullAtRestBut}
-use Rattle.line_rules.specs.declared.line_state.Lie.{Lie}
 use Rattle.line_rules.specs.declared.run_end.RunEnd.{RunEnd}
 use Rattle.line_rules.specs.declared.run_end.RunEnd.TheVariants as run_ends
 use Rattle.planned_calls.specs.Calls.{HasNo, MakesEach, is_crash, is_suspect}

@@ -1,5 +1,5 @@
 -- The lines that a maker makes for a group.
-use Rattle.std.specs.Prelude.{ℕ, ◌≡◌, ◌+◌, ◌*◌, ◌<◌, List, length, Option, Some, None}
+use Rattle.std.specs.Prelude.{ℕ, ◌≡◌, ◌*◌, ◌<◌, List, length, Option, Some, None}
 use Rattle.upd_base.specs.Edge.{Rose}
 use Rattle.upd_lines.specs.Line.{IsFresh}
 use Rattle.upd_lines.specs.declared.line.Line.{Ghosts}

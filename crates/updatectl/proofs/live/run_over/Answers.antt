@@ -1,4 +1,4 @@
-use Rattle.std.proofs.Common.{◌≡◌, ℕ, IfSome, sym, subst}
+use Rattle.std.proofs.Common.{ℕ, IfSome, sym, subst}
 use Rattle.run_journal.specs.Journal.{plan_of, past_of}
 use Rattle.updatectl.specs.Live.{IsLiveRun}
 use Rattle.updatectl.specs.Made.{AreMade}
