@@ -21,7 +21,7 @@ use Rattle.line_rules.specs.declared.run_end.RunEnd.{RunEnd}
 use Rattle.planned_calls.specs.Calls.{HasNo, is_crash, is_suspect}
 use Rattle.planned_calls.specs.Sends.{DeliversSends}
 use Rattle.updatectl.specs.Causes.{WroteRunOf}
-use Rattle.updatectl.specs.Live.{AreSteady, IsComplete, IsFaithful, IsLiveRun, IsRunStatus, IsSteady, WroteOver, told_end}
+use Rattle.updatectl.specs.Live.{AreBack, AreSteady, IsBack, IsComplete, IsFaithful, IsLiveRun, IsRunStatus, IsSteady, WhyDown, WroteOver, told_end}
 use Rattle.updatectl.specs.Made.{AreMade, IsMade}
 use Rattle.updatectl.specs.Recorded.{CameTo, the_rules}
 use Rattle.updatectl.specs.Rehearsal.{KeepsLaws}
@@ -86,6 +86,27 @@ module _ {L : Type 0} (G : Ghosts L) where
   not_down before now (Some old) None made makes steady down = down
   not_down before now (Some old) (Some new) made makes steady rose = steady (subst (λ k. Rose k (G.faults new)) made.1 rose)
 
+  is_back : (plan : Planned) (past : Events) (from to before now : ℕ) (old new : Option L) → IsMade G before now old → CameBack G the_rules plan [] past from to old new → IsBack G plan past from to before now new
+  is_back plan past from to before now None None made back = made
+  is_back plan past from to before now None (Some line) made back = absurd back
+  is_back plan past from to before now (Some old) None made back = absurd back
+  is_back plan past from to before now (Some old) (Some new) made back = (G.told old, made.0, back.0)
+
+  are_back : (plan : Planned) (past : Events) (before now : ℕ → ℕ → ℕ) (made lines : List (Option L)) → AreMade G plan.members before now made → ComeBack G the_rules plan [] past made lines
+      → AreBack G before now plan past lines
+  are_back plan past before now made lines are back = record {
+    places = back.places ∙ are.places;
+    each = λ from to lf lt.
+        is_back plan past from to (before from to) (now from to) (line_at plan.members made from to) (line_at plan.members lines from to) (are.each from to lf lt) (back.each from to lf lt);
+  }
+
+  why_down : (plan : Planned) (past : Events) (from to before now : ℕ) (old new : Option L) → IsMade G before now old → CameBack G the_rules plan [] past from to old new → IsDownLine G old new
+      → WhyDown G before now new
+  why_down plan past from to before now None None made back down = made
+  why_down plan past from to before now None (Some line) made back down = absurd back
+  why_down plan past from to before now (Some old) None made back down = absurd back
+  why_down plan past from to before now (Some old) (Some new) made back down = subst (λ k. Rose k (G.faults new)) made.1 down
+
   not_faithful : (carried next : List ℕ) (old new : Option L) (lie : Lie) → ToldLie G carried next old new lie → IsFaithful G new → ⊥
   not_faithful carried next None new lie told faithful = told
   not_faithful carried next (Some old) None lie told faithful = told
@@ -139,6 +160,10 @@ module _ {L : Type 0} (G : Ghosts L) where
         down = down_at status w;
         lied = lied_at status w;
       };
+      back = are_back plan past before now made lines are back;
+      why_down = λ from to e. (let d = down_at status w from to e in
+          why_down plan past from to (before from to) (now from to) (line_at plan.members made from to) (line_at plan.members lines from to) (are.each from to d.from_member d.to_member)
+          (back.each from to d.from_member d.to_member) d.is_down);
       wrote = w;
     }
 

@@ -1,12 +1,13 @@
 -- What a run with threads promises.
-use Rattle.std.specs.Prelude.{ℕ, true, ◌≡◌, ◌⊎◌, ◌<◌, List, [], Option, Some, None}
+use Rattle.std.specs.Prelude.{ℕ, true, ◌≡◌, ◌⊎◌, ◌*◌, ◌<◌, List, [], length, Option, Some, None}
 use Rattle.upd_base.specs.Edge.{Rose}
 use Rattle.upd_base.specs.Plan.{Planned}
+use Rattle.upd_lines.specs.Line.{IsFresh, Told}
 use Rattle.upd_lines.specs.declared.line.Line.{Ghosts}
 use Rattle.group_run.specs.Run.{Events}
 use Rattle.group_run.specs.Settled.{IsTrusting}
 use Rattle.line_rules.specs.Ends.{EndsRun, IsDownEnd, IsLyingEnd}
-use Rattle.line_rules.specs.Lines.{ComeBack, IsAside, line_at}
+use Rattle.line_rules.specs.Lines.{ComeBack, HasCarried, IsAside, line_at}
 use Rattle.line_rules.specs.Rest.{GoesOnFullAtRestBut}
 use Rattle.line_rules.specs.declared.run_end.RunEnd.{RunEnd}
 use Rattle.line_rules.specs.declared.run_end.RunEnd.TheVariants as run_ends
@@ -115,9 +116,26 @@ IsLied status = (from to at put got : ℕ) × (status ≡ statuses.LineLied from
 abbrev pub IsComplete : {L : Type 0} → Ghosts L → Status → ℕ → List (Option L) → Type 0
 IsComplete G status n lines = (AreFaithful G n lines → OrMemory status statuses.Done) × (OrMemory status statuses.Done ⊎ IsLied status)
 
+-- A line is back: there is none where the maker's count of faults rose; else it was new in the call, and gave as many bytes as the
+-- frames have that were received on its link, and as a part of the next one has; where it tells, theirs come first.
+abbrev pub IsBack : {L : Type 0} → Ghosts L → Planned → Events → ℕ → ℕ → ℕ → ℕ → Option L → Type 0
+IsBack G plan past from to before now None = Rose before now
+IsBack G plan past from to before now (Some line) = (old : Told) × IsFresh old × HasCarried the_rules plan [] past from to old (G.told line)
+
+pub record AreBack {L : Type 0} (G : Ghosts L) (before now : ℕ → ℕ → ℕ) (plan : Planned) (past : Events) (lines : List (Option L)) : Type 0 where
+  pub places : length lines ≡ plan.members * plan.members
+  pub each : (from to : ℕ) → from < plan.members → to < plan.members → IsBack G plan past from to (before from to) (now from to) (line_at plan.members lines from to)
+
+-- why a line is down: it could not be made, or it failed
+abbrev pub WhyDown : {L : Type 0} → Ghosts L → ℕ → ℕ → Option L → Type 0
+WhyDown G before now None = Rose before now
+WhyDown G before now (Some line) = Rose 0 (G.faults line)
+
 -- What is promised of the run, of the lines that the maker made in the call, and of what the sink got.
 pub record IsLiveRun {L : Type 0} (G : Ghosts L) (before now : ℕ → ℕ → ℕ) (status : Status) (form : Form) (plan : Planned) (past : Events) (lines : List (Option L)) (old new : Option (List ℕ)) : Type 0 where
   pub made : List (Option L)
   pub are_made : AreMade G plan.members before now made
   pub run : IsRunOver G before now status plan past made lines
+  pub back : AreBack G before now plan past lines
+  pub why_down : (from to : ℕ) → status ≡ statuses.LineDown from to → WhyDown G (before from to) (now from to) (line_at plan.members lines from to)
   pub wrote : WroteOver G status form plan past made lines old new
