@@ -1,5 +1,5 @@
 -- What a chain of workers brings back.
-use Rattle.std.proofs.Common.{◌≡◌, ◌≢◌, ℕ, suc, ◌+◌, ◌*◌, ◌<◌, ◌≤◌, Bool, true, List, [], length, set, refl, sym, ap, ◌∙◌, subst, arith, Option, Some, None, lt_of_not-le}
+use Rattle.std.proofs.Common.{◌≡◌, ◌≢◌, ℕ, suc, ◌+◌, ◌-◌, ◌*◌, ◌<◌, ◌≤◌, Bool, true, List, [], length, set, refl, sym, ap, ◌∙◌, subst, arith, Option, Some, None, lt_of_not-le}
 use native.Mathlib.Decide.{dec_le, ℕ_discrete}
 use Rattle.std.specs.Prelude.{All, slice_index_or}
 use Rattle.std.proofs.lemmas.List.{append-nil, get_or-set_same, get_or-set_other, length-set}
@@ -126,16 +126,15 @@ module _ {L : Type 0} (G : Ghosts L) (rules : Rules) (plan : Planned) (began : L
       (knows_joined rules plan began (λ k. low ≤ k) seen other joined own theirs p q
       (knows_wider rules plan began (λ k. next ≤ k) (λ k. low ≤ k) seen own (λ k le. omega arith) k) (knows_wider rules plan began mine (λ k. low ≤ k) other theirs wider h))
 
-  -- the lines of the links above stay as far
-  pub worked_others : (low next high : ℕ) (seen other joined : List Event) (own theirs all : List ℕ) (wanted wanted' : Bool) (lines new : List (Option L)) (states : List LineState) → all ≡ merged own theirs → Ascends 0 high own → IsPrefix seen joined → IsPrefix other joined
-      → next ≡ low + 1 → (wanted ≡ true → wanted' ≡ true) → Knows rules plan began (λ k. k ≡ low) other theirs → AreWorked G rules plan began seen own next wanted lines new states → AreWorked G rules plan began joined all next wanted' lines new states
-  worked_others low next high seen other joined own theirs all wanted wanted' lines new states is up p q one w h k = record {
+  -- the lines stay as far where a pass is joined in that made no receipts on their links
+  pub worked_others : (low high : ℕ) (mine : ℕ → Type 0) (seen other joined : List Event) (own theirs all : List ℕ) (wanted wanted' : Bool) (lines new : List (Option L)) (states : List LineState) → all ≡ merged own theirs → Ascends 0 high own → IsPrefix seen joined → IsPrefix other joined
+      → ((k : ℕ) → low ≤ k → mine k → ⊥) → (wanted ≡ true → wanted' ≡ true) → Knows rules plan began mine other theirs → AreWorked G rules plan began seen own low wanted lines new states → AreWorked G rules plan began joined all low wanted' lines new states
+  worked_others low high mine seen other joined own theirs all wanted wanted' lines new states is up p q apart w h k = record {
     same = k.same;
     stated = k.stated;
     each = λ from to f t le.
         worked_still rules plan from to began G seen joined own all wanted wanted' _ _ _
-        (subst (λ z. BringsNoMore rules plan from to seen own joined z) (sym is) (none_joined rules plan from to seen joined own theirs high up p (elsewhere_of (λ k. k ≡ low) other joined theirs from to (λ e. absurd (omega arith)) q h)))
-        w (k.each from to f t le);
+        (subst (λ z. BringsNoMore rules plan from to seen own joined z) (sym is) (none_joined rules plan from to seen joined own theirs high up p (elsewhere_of mine other joined theirs from to (apart (from * plan.members + to) le) q h))) w (k.each from to f t le);
   }
 
   -- and so does that of the link whose pass was joined in
@@ -158,33 +157,12 @@ fresh_pass {O} {G} group mine pass of fresh goes_on = record { of = of; knows = 
 pub even_at : {L : Type 0} (G : Ghosts L) (lines : List (Option L)) (low : ℕ) (found : Option L) (line : L) → found ≡ slice_index_or lines low None → found ≡ Some line → IsEvenLine G (slice_index_or lines low None) → IsEven (G.told line)
 even_at G lines low found line is some even = subst (IsEvenLine G) (sym is ∙ some) even
 
-module _ {O : Type 0} {G : OrderGhosts O} (group : LiveGroup O G) {K : KeptGhosts (KeptJournal O G) Recorded} {L : Type 0} (GL : Ghosts L) (low next members threads : ℕ) (pass pass' : Pass (KeptJournal O G) Recorded K) (lines lines' : List (Option L)) (states states' : List LineState) where
-  -- the chain goes on at the next place
-  pub may_go_on : next ≡ low + 1 → low < length lines → MayServe group GL low members threads pass lines states → IsPassOf group pass' → events_seen pass' ≡ events_seen pass → places pass' ≡ places pass → parts pass ≤ parts pass' + 1 → lines' ≡ set lines low None → states' ≡ states
-      → MayServe group GL next members threads pass' lines' states'
-  may_go_on one within m of seen own some_parts is same =
-      let n : length lines' ≡ length lines = ap length is ∙ length-set lines low None in
-      let s : length states' ≡ length states = ap length same in
-      let e = m.enough in
-      record {
-        of = of;
-        fresh = own ∙ m.fresh;
-        goes_on = subst (λ z. IsPrefix (events_of (shared group)) z) (sym seen) m.goes_on;
-        plan = m.plan;
-        members_are = m.members_are;
-        threads_are = m.threads_are;
-        lines_are = n ∙ m.lines_are;
-        stated = s ∙ (m.stated ∙ sym n);
-        within = omega arith;
-        enough = omega arith;
-        even = λ p le. subst (IsEvenLine GL) (sym (ap (λ z. slice_index_or z p None) is ∙ get_or-set_other lines low p None None (λ e. absurd (omega (arith, le, one, e))))) (m.even p (omega arith));
-      }
-
-module _ {O : Type 0} {G : OrderGhosts O} (group : LiveGroup O G) {K : KeptGhosts (KeptJournal O G) Recorded} {L : Type 0} (GL : Ghosts L) (members threads : ℕ) (pass : Pass (KeptJournal O G) Recorded K) (lines : List (Option L)) (states : List LineState) where
+module _ {O : Type 0} {G : OrderGhosts O} (group : LiveGroup O G) {K : KeptGhosts (KeptJournal O G) Recorded} {L : Type 0} (GL : Ghosts L) (members : ℕ) where
   -- the chain begins where the journal was just shared
-  pub may_start : (journal : Journal O G) → shared group ≡ journal → IsPassOf group pass → events_seen pass ≡ events_of journal → places pass ≡ [] → parts pass ≡ PARTS → is_plan (plan_of journal) ≡ true → members ≡ (plan_of journal).members → threads ≡ length (plan_of journal).threads
-      → length lines ≡ (plan_of journal).members * (plan_of journal).members → length states ≡ length lines → ((p : ℕ) → IsEvenLine GL (slice_index_or lines p None)) → MayServe group GL 0 members threads pass lines states
-  may_start journal is of seen own all_parts plan members_are threads_are places_are stated even =
+  pub may_start : (journal : Journal O G) (pass : Pass (KeptJournal O G) Recorded K) (threads : ℕ) (lines : List (Option L)) (states : List LineState) → shared group ≡ journal → IsPassOf group pass → events_seen pass ≡ events_of journal → places pass ≡ [] → parts pass ≡ PARTS
+      → is_plan (plan_of journal) ≡ true → members ≡ (plan_of journal).members → threads ≡ length (plan_of journal).threads → length lines ≡ (plan_of journal).members * (plan_of journal).members → length states ≡ length lines → ((p : ℕ) → IsEvenLine GL (slice_index_or lines p None))
+      → MayServe group GL 0 members (threads - 0) pass lines states
+  may_start journal pass threads lines states is of seen own all_parts plan members_are threads_are places_are stated even =
       let f = plan_facts (plan_of journal) plan in
       let n = f.few in
       let m = mul-le-mul_left (plan_of journal).members n in
@@ -195,10 +173,47 @@ module _ {O : Type 0} {G : OrderGhosts O} (group : LiveGroup O G) {K : KeptGhost
         goes_on = ([], seen ∙ (ap events_of (sym is) ∙ sym (append-nil (events_of (shared group)))));
         plan = ap (λ j. is_plan (plan_of j)) is ∙ plan;
         members_are = members_are ∙ ap (λ j. (plan_of j).members) (sym is);
-        threads_are = threads_are ∙ ap (λ j. length (plan_of j).threads) (sym is);
         lines_are = places_are ∙ ap (λ z. z * z) (sym members_are);
         stated = stated;
         within = omega arith;
         enough = omega (arith, places_are, m, n, t, threads_are, all_parts);
         even = λ p le. even p;
+      }
+
+  -- it goes on behind a worker of a thread
+  pub may_split : (low more more' : ℕ) (pass pass' : Pass (KeptJournal O G) Recorded K) (lines : List (Option L)) (states : List LineState) → MayServe group GL low members more pass lines states → IsPassOf group pass' → events_seen pass' ≡ events_seen pass → places pass' ≡ places pass
+      → parts pass + more' ≤ parts pass' + more → MayServe group GL low members more' pass' lines states
+  may_split low more more' pass pass' lines states m of seen own enough =
+      let e = m.enough in
+      record {
+        of = of;
+        fresh = own ∙ m.fresh;
+        goes_on = subst (λ z. IsPrefix (events_of (shared group)) z) (sym seen) m.goes_on;
+        plan = m.plan;
+        members_are = m.members_are;
+        lines_are = m.lines_are;
+        stated = m.stated;
+        within = m.within;
+        enough = omega (arith, e, enough);
+        even = m.even;
+      }
+
+  -- and at the next place
+  pub may_go_on : (low next more : ℕ) (pass pass' : Pass (KeptJournal O G) Recorded K) (lines lines' : List (Option L)) (states states' : List LineState) → next ≡ low + 1 → low < length lines → MayServe group GL low members more pass lines states → IsPassOf group pass' → events_seen pass' ≡ events_seen pass
+      → places pass' ≡ places pass → parts pass ≤ parts pass' + 1 → lines' ≡ set lines low None → states' ≡ states → MayServe group GL next members more pass' lines' states'
+  may_go_on low next more pass pass' lines lines' states states' one within m of seen own some_parts is same =
+      let n : length lines' ≡ length lines = ap length is ∙ length-set lines low None in
+      let s : length states' ≡ length states = ap length same in
+      let e = m.enough in
+      record {
+        of = of;
+        fresh = own ∙ m.fresh;
+        goes_on = subst (λ z. IsPrefix (events_of (shared group)) z) (sym seen) m.goes_on;
+        plan = m.plan;
+        members_are = m.members_are;
+        lines_are = n ∙ m.lines_are;
+        stated = s ∙ (m.stated ∙ sym n);
+        within = omega arith;
+        enough = omega arith;
+        even = λ p le. subst (IsEvenLine GL) (sym (ap (λ z. slice_index_or z p None) is ∙ get_or-set_other lines low p None None (λ e. absurd (omega (arith, le, one, e))))) (m.even p (omega arith));
       }

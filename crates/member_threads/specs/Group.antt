@@ -53,19 +53,18 @@ module _ {O : Type 0} {G : Ghosts O} (group : LiveGroup O G) {K : KeptGhosts (Ke
   abbrev pub HasWorked : {L : Type 0} → LineGhosts L → Pass (KeptJournal O G) Recorded K → ℕ → ℕ → Bool → L → L → LineState → Type 0
   HasWorked GL pass from to wanted old new state = Worked GL (rules_of G) (plan_shared group) (events_of (shared group)) (events_seen pass) (places pass) from to wanted (Some old) (Some new) state
 
-  -- What a chain of workers needs, one for each link from this number on and one for each thread: a fresh pass with a part for each of
-  -- them, and lines on which all that was put was got.
-  pub record MayServe {L : Type 0} (GL : LineGhosts L) (low members threads : ℕ) (pass : Pass (KeptJournal O G) Recorded K) (lines : List (Option L)) (states : List LineState) : Type 0 where
+  -- What a chain of workers needs, one for each link from this number on, and so many more: a fresh pass with a part for each of them,
+  -- and lines on which all that was put was got.
+  pub record MayServe {L : Type 0} (GL : LineGhosts L) (low members more : ℕ) (pass : Pass (KeptJournal O G) Recorded K) (lines : List (Option L)) (states : List LineState) : Type 0 where
     pub of : IsPassOf group pass
     pub fresh : places pass ≡ []
     pub goes_on : IsPrefix (events_of (shared group)) (events_seen pass)
     pub plan : is_plan (plan_shared group) ≡ true
     pub members_are : members ≡ (plan_shared group).members
-    pub threads_are : threads ≡ length (plan_shared group).threads
     pub lines_are : length lines ≡ members * members
     pub stated : length states ≡ length lines
     pub within : low ≤ length lines
-    pub enough : length lines + threads < parts pass + low
+    pub enough : length lines + more < parts pass + low
     pub even : (place : ℕ) → low ≤ place → IsEvenLine GL (slice_index_or lines place None)
 
   -- What it comes back with: the parts that it had, and the lines as far as its events took frames.

@@ -1,5 +1,5 @@
 //! The workers of a group, each in a thread of its own, in a chain: the pass is split for each, and every part and every line comes back.
-ghost use Rattle.std.specs.Prelude.{ℕ, true, None, [], ◌≡◌, ◌+◌, ◌*◌, ◌<◌, ◌≤◌, length, set, slice_index_or};
+ghost use Rattle.std.specs.Prelude.{ℕ, true, None, [], ◌≡◌, ◌+◌, ◌*◌, ◌<◌, ◌≤◌, ◌-◌, length, set, slice_index_or};
 ghost use denote.Param.Send.{IsSync};
 ghost use Rattle.upd_base.specs.Plan.{is_plan};
 ghost use Rattle.turn_lock.specs.Lists.{IsPrefix};
@@ -77,68 +77,25 @@ fn either(one: bool, other: bool) -> bool
     one || other
 }
 
-/// A worker for each thread of the plan from this number on. They come back with the pass, and whether a request for memory was refused.
-fn call_threads<O: Ordering, G: Gate, R: Threads + Wait + Sync>(
+/// A worker for each link from this place on whose line is there. They come back with the pass and all lines.
+fn serve_links<O: Ordering, L: Line, R: Threads + Wait + Sync>(
     rt: &R,
     alloc: Global,
     group: &LiveGroup<O>,
-    gate: &G,
-    mut pass: GroupPass<O>,
-    number: u8,
-    threads: u8,
-) -> (GroupPass<O>, bool)
-    requires pass { IsWorkersPass group.now (λ _. ⊥) pass }
-    requires threads { threads ≡ length (plan_shared group.now).threads }
-    requires enough { threads < parts pass + number }
-    ensures pass { IsWorkersPass group.now (λ _. ⊥) result.0 }
-    ensures parts { parts result.0 ≡ parts pass }
-{
-    if number >= threads {
-        return (pass, false);
-    }
-    let other = group.split(&mut pass);
-    let next = number + 1;
-    let ((theirs, short), (mut mine, wanted)) = thread::join(
-        rt,
-        move || -> (GroupPass<O>, bool)
-            requires { IsWorkersPass group.now (λ _. ⊥) other × (number < length (plan_shared group.now).threads) }
-            ensures { IsWorkersPass group.entry.now (λ _. ⊥) result.0 × (parts result.0 ≡ parts other) }
-        { make_calls(rt, alloc, group, gate, other, number) },
-        move || -> (GroupPass<O>, bool)
-            requires { IsSync R.row × IsWorkersPass group.now (λ _. ⊥) pass × (threads ≡ length (plan_shared group.now).threads) × (threads < parts pass + next) }
-            ensures { IsWorkersPass group.entry.now (λ _. ⊥) result.0 × (parts result.0 ≡ parts pass) }
-        { call_threads(rt, alloc, group, gate, pass, next, threads) },
-    );
-    group.join(&mut mine, theirs);
-    (mine, either(wanted, short))
-}
-
-/// A worker for each link from this place on whose line is there, and one for each thread of the plan. They come back with the pass and
-/// all lines.
-pub(crate) fn serve_links<O: Ordering, L: Line, G: Gate, R: Threads + Wait + Sync>(
-    rt: &R,
-    alloc: Global,
-    group: &LiveGroup<O>,
-    gate: &G,
     mut pass: GroupPass<O>,
     mut left: Left<L>,
     place: usize,
     members: u8,
-    threads: u8,
 ) -> (GroupPass<O>, Left<L>)
-    requires { MayServe group.now L.Line place members threads pass left.lines.items left.states.items }
+    requires { MayServe group.now L.Line place members 0 pass left.lines.items left.states.items }
     ensures { HaveServed group.now L.Line place (parts pass) result.0 result.1.wanted left.lines.items result.1.lines.items result.1.states.items }
 {
     if place >= left.lines.len() {
-        let (pass, wanted) = call_threads(rt, alloc, group, gate, pass, 0, threads);
-        left.wanted = wanted;
         return (pass, left);
     }
     let next = place + 1;
     let Some(line) = take_line(&mut left, place) else {
-        let (pass, mut left) = serve_links(
-            rt, alloc, group, gate, pass, left, next, members, threads,
-        );
+        let (pass, mut left) = serve_links(rt, alloc, group, pass, left, next, members);
         put_back(&mut left, place, None, LineState::Missing);
         return (pass, left);
     };
@@ -151,13 +108,52 @@ pub(crate) fn serve_links<O: Ordering, L: Line, G: Gate, R: Threads + Wait + Syn
             ensures { IsWorkersPass group.entry.now (λ k. k ≡ from * (plan_shared group.entry.now).members + to) result.0 × (parts result.0 ≡ parts other) × HasWorked group.entry.now L.Line result.0 from to result.2 line result.1.line result.1.state }
         { serve_link(rt, alloc, group, other, from, to, line) },
         move || -> (GroupPass<O>, Left<L>)
-            requires { IsSync R.row × MayServe group.now L.Line next members threads pass left.lines.items left.states.items }
+            requires { IsSync R.row × MayServe group.now L.Line next members 0 pass left.lines.items left.states.items }
             ensures { HaveServed group.entry.now L.Line next (parts pass) result.0 result.1.wanted left.lines.items result.1.lines.items result.1.states.items }
-        { serve_links(rt, alloc, group, gate, pass, left, next, members, threads) },
+        { serve_links(rt, alloc, group, pass, left, next, members) },
     );
     group.join(&mut mine, theirs);
     let Served { line, state } = served;
     put_back(&mut left, place, Some(line), state);
     left.wanted = either(left.wanted, short);
+    (mine, left)
+}
+
+/// A worker for each thread of the plan from this number on, and behind them one for each link whose line is there. They come back with
+/// the pass and all lines.
+pub(crate) fn run_workers<O: Ordering, L: Line, G: Gate, R: Threads + Wait + Sync>(
+    rt: &R,
+    alloc: Global,
+    group: &LiveGroup<O>,
+    gate: &G,
+    mut pass: GroupPass<O>,
+    left: Left<L>,
+    number: u8,
+    threads: u8,
+    members: u8,
+) -> (GroupPass<O>, Left<L>)
+    requires workers { MayServe group.now L.Line 0 members (threads - number) pass left.lines.items left.states.items }
+    requires threads { threads ≡ length (plan_shared group.now).threads }
+    ensures { HaveServed group.now L.Line 0 (parts pass) result.0 result.1.wanted left.lines.items result.1.lines.items result.1.states.items }
+{
+    if number >= threads {
+        return serve_links(rt, alloc, group, pass, left, 0, members);
+    }
+    let next = number + 1;
+    let other = group.split(&mut pass);
+    let ((theirs, short), (mut mine, mut left)) = thread::join(
+        rt,
+        move || -> (GroupPass<O>, bool)
+            requires { IsWorkersPass group.now (λ _. ⊥) other × (number < length (plan_shared group.now).threads) }
+            ensures { IsWorkersPass group.entry.now (λ _. ⊥) result.0 × (parts result.0 ≡ parts other) }
+        { make_calls(rt, alloc, group, gate, other, number) },
+        move || -> (GroupPass<O>, Left<L>)
+            requires { IsSync R.row × MayServe group.now L.Line 0 members (threads - next) pass left.lines.items left.states.items × (threads ≡ length (plan_shared group.now).threads) }
+            ensures { HaveServed group.entry.now L.Line 0 (parts pass) result.0 result.1.wanted left.lines.items result.1.lines.items result.1.states.items }
+        { run_workers(rt, alloc, group, gate, pass, left, next, threads, members) },
+    );
+    group.join(&mut mine, theirs);
+    let wanted = either(left.wanted, short);
+    left.wanted = wanted;
     (mine, left)
 }

@@ -8,7 +8,7 @@ ghost use Rattle.line_rules.specs.Lines.{AreOnTheWay, AreReady, ComeBack, IsAsid
 ghost use Rattle.line_rules.specs.Rest.{GoesOnFullAtRestBut};
 ghost use Rattle.line_rules.specs.Ends.{EndsRun};
 
-use crate::chains::{Left, serve_links};
+use crate::chains::{Left, run_workers};
 use group_lines::{Ran, finish_from};
 use line_rules::{LineState, RunEnd};
 use live_group::LiveGroup;
@@ -106,8 +106,8 @@ fn share_out<O: Ordering, L: Line, G: Gate, R: Threads + Wait + Sync>(
                 states,
                 wanted: false,
             };
-            let (pass, left) = serve_links(
-                rt, alloc, &group, gate, pass, left, 0, members, threads,
+            let (pass, left) = run_workers(
+                rt, alloc, &group, gate, pass, left, 0, threads, members,
             );
             let journal = group.close(pass);
             journal.len();

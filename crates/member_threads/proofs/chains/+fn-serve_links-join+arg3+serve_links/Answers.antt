@@ -12,13 +12,9 @@ use Rattle.member_threads.proofs.chains.+fn-serve_links-join+arg3+serve_links.Go
 
 pub returns-then-place-len : goal.returns-then-place-len
 returns-then-place-len g t c =
-    let e = c.call_threads-pass.ensures in
     let r = c.requires in
-    record {
-      mine = record { of = e.pass.of; knows = knows_wider _ _ _ (λ _. ⊥) (λ k. c.args.place ≤ k) _ _ (λ k none_there. absurd none_there) e.pass.knows };
-      all_parts = e.parts;
-      worked = worked_none g.L.Line _ _ _ _ _ c.args.place _ _ _ (r.lines_are ∙ ap (λ m. m * m) r.members_are) r.stated (omega (arith, c.if-place-len.true, c.len.ensures));
-    }
+    let w = fresh_pass c.args.group.now (λ k. c.args.place ≤ k) c.args.pass r.of r.fresh r.goes_on in
+    record { mine = w; all_parts = refl; worked = worked_none g.L.Line _ _ _ _ _ c.args.place _ _ _ (r.lines_are ∙ ap (λ m. m * m) r.members_are) r.stated (omega (arith, c.if-place-len.true, c.len.ensures)) }
 
 pub returns-in_default : goal.returns-in_default
 returns-in_default g t c =
@@ -52,7 +48,7 @@ join-theirs-requires-after_bounds g t c =
     let t' : to < n = omega (arith, l.to, r.members_are) in
     let e = even_at g.L.Line c.args.left.lines.items c.args.place c.take_line.result c.in-Some.line c.take_line.ensures.line c.in-Some.is (r.even c.args.place (omega arith)) in
     let some_parts : parts c.args.pass ≤ parts c.split-other.new.pass + 1 = omega (arith, s.parts.0) in
-    let m = may_go_on group g.L.Line c.args.place (c.args.place + 1) c.args.members c.args.threads c.args.pass c.split-other.new.pass _ _ _ _ refl within r s.of.0 s.seen.0 s.own.0 some_parts c.take_line.ensures.lines c.take_line.ensures.states in
+    let m = may_go_on group g.L.Line c.args.members c.args.place (c.args.place + 1) 0 c.args.pass c.split-other.new.pass _ _ _ _ refl within r s.of.0 s.seen.0 s.own.0 some_parts c.take_line.ensures.lines c.take_line.ensures.states in
     search (rules, w, s.own.1, f, t', r.plan, e, m)
 
 pub returns : goal.returns
@@ -79,6 +75,6 @@ returns g t c =
       mine = record { of = j.of; knows = knows_both g.L.Line _ _ _ place next (λ x. x ≡ place) _ _ _ _ _ _ j.own j.prefixes.0 j.prefixes.1 refl (λ x e. omega arith) rest.mine.knows theirs };
       all_parts = omega (arith, j.parts, rest.all_parts, one.1, s.parts.0, s.parts.1, r.enough, within);
       worked = worked_put g.L.Line _ _ _ _ _ place next _ _ _ _ _ _ _ _ (Some c.in-Some.line) _ _ refl within found c.take_line.ensures.lines p.lines p.states (λ w. w)
-          (worked_others g.L.Line _ _ _ place next _ _ _ _ _ _ _ _ _ _ _ _ j.own rest.mine.of.rise j.prefixes.0 j.prefixes.1 refl w1 theirs rest.worked)
+          (worked_others g.L.Line _ _ _ next _ (λ x. x ≡ place) _ _ _ _ _ _ _ _ _ _ _ j.own rest.mine.of.rise j.prefixes.0 j.prefixes.1 (λ x le e. absurd (omega arith)) w1 theirs rest.worked)
           (λ from to f t at'. worked_joined g.L.Line _ _ _ place next from to i k _ _ _ _ _ _ _ _ _ _ _ at at' below t j.own j.prefixes.0 j.prefixes.1 refl w2 rest.mine.knows one.2);
     }
