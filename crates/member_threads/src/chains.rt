@@ -54,7 +54,7 @@ fn put_back<L: Line>(left: &mut Left<L>, place: usize, line: Option<L>, state: L
 }
 
 /// The link whose line stands at a place.
-fn link_at(place: usize, members: u8) -> (MemberId, MemberId)
+fn link_at(members: u8, place: usize) -> (MemberId, MemberId)
     requires within { place < members * members }
     requires few { members ≤ 7 }
     ensures from { result.0 < members }
@@ -99,7 +99,7 @@ fn serve_links<O: Ordering, L: Line, R: Threads + Wait + Sync>(
         put_back(&mut left, place, None, LineState::Missing);
         return (pass, left);
     };
-    let (from, to) = link_at(place, members);
+    let (from, to) = link_at(members, place);
     let other = group.split(&mut pass);
     let ((theirs, served, short), (mut mine, mut left)) = thread::join(
         rt,
