@@ -2,27 +2,11 @@
 //! recorded run. Writes scenarios by a seed.
 #![tactic(auto)]
 
-mod check;
-mod generate;
-mod journal;
-mod journal_input;
-mod live;
-mod making;
-mod outcome;
-mod refusals;
-mod run_end;
-mod scenario_input;
-mod scenario_runs;
 mod std_edge;
-mod texts;
-mod top;
-mod words;
-mod writing;
 
 use line_fakes::SureLines;
-use live::live;
 use loop_link::LoopLines;
-use outcome::Status;
+use program_texts::Status;
 use std::alloc::Global;
 use std::env;
 use std::io::{Error, ErrorKind};
@@ -31,7 +15,7 @@ use std::process::ExitCode;
 use std::sync::Wait;
 use std::thread::Threads;
 use std_edge::{StdSink, StdSource};
-use top::plain;
+use top_calls::{live, plain};
 use upd_base::{Sink, Source};
 use worker_gates::OpenGate;
 

@@ -1,0 +1,54 @@
+use crate::{End, Status, checked_text, refusal_text, run_text};
+use module_binding::Module;
+use program_words::Form;
+use run_journal::Journal;
+use std::alloc::Global;
+use std::test::*;
+use upd_base::{Kind, Plan};
+
+const ENDED: &str = "run: 1 members, 0 events, 0 of 0 calls
+answers: 0 accepted, 0 done, 0 full, 0 crashed
+member 0: version 0, lamport, up, 0 delivered
+end: settled
+";
+
+const CHECKED: &str = "run: 1 members, 0 events, 0 of 0 calls
+answers: 0 accepted, 0 done, 0 full, 0 crashed
+member 0: version 0, lamport, up, 0 delivered
+end: a run
+";
+
+fn journal(alloc: Global) -> Result<Journal<Module>, Fail> {
+    let Some(plan) = Plan::new(1, Kind::Lamport, Vec::new(alloc)) else {
+        return Err("a plan")?;
+    };
+    match Journal::begin(alloc, plan) {
+        Ok(journal) => Ok(journal),
+        Err(_) => Err("memory")?,
+    }
+}
+
+#[test]
+fn texts_of_runs(rt: HostRuntime) -> Result<(), Fail> {
+    let alloc = rt.alloc();
+    let journal = journal(alloc)?;
+    let Ok(report) = run_text(alloc, Form::Long, &journal, &End::Settled) else {
+        return Err("memory")?;
+    };
+    assert_eq!(rt; report.as_slice(), ENDED.as_bytes());
+    let Ok(checked) = checked_text(alloc, &journal) else {
+        return Err("memory")?;
+    };
+    assert_eq!(rt; checked.as_slice(), CHECKED.as_bytes());
+    Ok(())
+}
+
+#[test]
+fn refusals(rt: HostRuntime) -> Result<(), Fail> {
+    let alloc = rt.alloc();
+    let not_a_run = Status::NotARun(12);
+    assert_eq!(rt; not_a_run.code(), 10);
+    let text = refusal_text(alloc, &not_a_run)?;
+    assert_eq!(rt; text.as_slice(), b"not a run: event 12\n");
+    Ok(())
+}

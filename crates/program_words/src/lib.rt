@@ -1,0 +1,9 @@
+//! The words of the command line: which command they ask for.
+#![tactic(auto)]
+
+mod words;
+
+pub use words::{Command, Form, Generate, LineKind, Rehearse, Run, command_of, run_of};
+
+#[cfg(test)]
+mod tests;

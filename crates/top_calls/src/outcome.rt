@@ -1,0 +1,12 @@
+use module_binding::Module;
+use program_texts::Status;
+use run_journal::Journal;
+
+/// What the program did: how it ended, the journal of the run that it made or read, and the lines of a run with
+/// threads, that of the link from `from` to `to` of n members at `from * n + to`, None where it could not be made.
+#[derive(Drop)]
+pub struct Outcome<L> {
+    pub status: Status,
+    pub journal: Option<Journal<Module>>,
+    pub lines: Vec<Option<L>>,
+}

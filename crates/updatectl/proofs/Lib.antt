@@ -1,8 +1,0 @@
-pub mod Read
-pub mod Seeds
-pub mod Serves
-pub mod Rehearsals
-pub mod Scenarios
-pub mod Checks
-pub mod MadeLines
-pub mod LiveRuns

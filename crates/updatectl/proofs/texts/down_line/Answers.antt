@@ -1,7 +1,0 @@
-use Rattle.std.proofs.Common.{append_assoc}
-use Rattle.updatectl.specs.Texts.{down_line}
-use Rattle.updatectl.proofs.texts.down_line.Goals as goal
-
-pub returns : goal.returns
-unfolding down_line
-returns c = simp append_assoc c.format.ensures.ok

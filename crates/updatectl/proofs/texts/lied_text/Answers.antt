@@ -1,7 +1,0 @@
-use Rattle.std.proofs.Common.{append_assoc}
-use Rattle.updatectl.specs.Texts.{lied_text}
-use Rattle.updatectl.proofs.texts.lied_text.Goals as goal
-
-pub returns : goal.returns
-unfolding lied_text
-returns c = simp append_assoc c.format.ensures.ok
