@@ -4,11 +4,11 @@ ghost use denote.Param.Send.{IsSync};
 ghost use Rattle.upd_base.specs.Plan.{is_plan};
 ghost use Rattle.turn_lock.specs.Lists.{IsPrefix};
 ghost use Rattle.turn_lock.specs.Pass.{parts};
-ghost use Rattle.live_group.specs.Group.{plan_shared};
+ghost use Rattle.live_group.specs.SharedGroup.{plan_shared};
 ghost use Rattle.live_group.specs.Pass.{events_seen, places};
 ghost use Rattle.line_rules.specs.Given.{IsEven};
 ghost use Rattle.line_rules.specs.Lines.{IsEvenLine};
-ghost use Rattle.member_threads.specs.Group.{IsWorkersPass, HasWorked, HaveServed, MayServe};
+ghost use Rattle.member_threads.specs.Worker.{IsWorkersPass, HasWorked, HaveServed, MayServe};
 
 use crate::calling::make_calls;
 use crate::serving::{Served, serve_link};
