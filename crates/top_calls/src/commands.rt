@@ -61,8 +61,8 @@ pub fn plain<S: Source, K: Sink>(
     // Where the plan has no suspicion and no edge fails, the run is settled and its text is written, want of memory aside.
     ensures complete { (asked : Rehearse) → command (map string_bytes words.now) ≡ Some (commands.Rehearse asked) → IfSome (S.left source.old) (λ all. (p : Planned) → reading all ≡ Ok p → HasNo is_suspect p
         → (Rose (S.faults source.old) (S.faults source.new) → ⊥) → (Rose (K.faults sink.old) (K.faults sink.new) → ⊥) → OrMemory result.status Status.Done) }
-    // The journal is there once the run was begun, and it is of the plan that the whole input is.
-    ensures there { (asked : Rehearse) → command (map string_bytes words.now) ≡ Some (commands.Rehearse asked) → IsWriting result.status → OrMemory result.status Status.NoMemory ⊎ IsSome result.journal }
+    // At the status of a run the journal is there, or memory did not suffice; it is of the plan that the whole input is.
+    ensures there { (asked : Rehearse) → command (map string_bytes words.now) ≡ Some (commands.Rehearse asked) → IsWriting result.status → (result.status ≡ Status.NoMemory) ⊎ IsSome result.journal }
     ensures plan { (asked : Rehearse) → command (map string_bytes words.now) ≡ Some (commands.Rehearse asked) → IfSome result.journal (λ j. IfSome (S.left source.old) (λ all. reading all ≡ Ok (plan_of j))) }
     ensures to_end { OnSome result.journal (IsAtEnd (S.left source.new)) }
     // Its events are those of the schedule that the words ask for, and a run that keeps all that is promised of it.
@@ -74,7 +74,7 @@ pub fn plain<S: Source, K: Sink>(
     ensures checked { command (map string_bytes words.now) ≡ Some commands.Check → IfSome result.journal (λ j. IfSome (S.left source.old) (λ all. IsJournalText all (plan_of j) (events_of j))) }
     ensures checked_laws { command (map string_bytes words.now) ≡ Some commands.Check → IfSome result.journal (λ j. KeepsLaws (plan_of j) (past_of j)) }
     ensures checked_report { command (map string_bytes words.now) ≡ Some commands.Check → IfSome result.journal (λ j. WroteCheck result.status (plan_of j) (past_of j) (K.held sink.old) (K.held sink.new)) }
-    ensures checked_there { command (map string_bytes words.now) ≡ Some commands.Check → IsWritten result.status → OrMemory result.status Status.NoMemory ⊎ IsSome result.journal }
+    ensures checked_there { command (map string_bytes words.now) ≡ Some commands.Check → IsWritten result.status → (result.status ≡ Status.NoMemory) ⊎ IsSome result.journal }
     ensures check_only { command (map string_bytes words.now) ≡ Some commands.Check → IsOfCheck result.status }
     // NotARun: the text is good, and that event is the first that can't be made. JournalRefused: the text is none.
     ensures not_a_run { (place : ℕ) → result.status ≡ Status.NotARun place → IfSome (S.left source.old) (λ all. HasWrongEvent the_rules all place) }

@@ -69,7 +69,7 @@ pub fn live<S: Source, K: Sink, M: LineMaker, G: Gate, R: Threads + Wait + Sync>
     ensures complete { (asked : Run) → run_of (map string_bytes words.now) ≡ Some asked → IfSome (S.left source.old) (λ all. (p : Planned) → reading all ≡ Ok p → HasNo is_suspect p
         → (Rose (S.faults source.old) (S.faults source.new) → ⊥) → (Rose (K.faults sink.old) (K.faults sink.new) → ⊥)
         → AreSteady M.Line.Line p.members (M.faults lines.old) (M.faults lines.new) result.lines.items → IsComplete M.Line.Line result.status p.members result.lines.items) }
-    // The journal is there once the run was begun, and it is of the plan that the whole input is.
+    // At the status of a run the journal is there, or memory did not suffice; it is of the plan that the whole input is.
     ensures there { IsRunStatus result.status → (result.status ≡ Status.NoMemory) ⊎ IsSome result.journal }
     ensures plan { IfSome result.journal (λ j. IfSome (S.left source.old) (λ all. reading all ≡ Ok (plan_of j))) }
     ensures to_end { OnSome result.journal (IsAtEnd (S.left source.new)) }

@@ -44,7 +44,7 @@ pub(crate) fn rehearse_scenario<S: Source, K: Sink>(
         → IsWriting result.status ⊎ (result.status ≡ Status.SourceFailed)) }
     ensures complete { IfSome (S.left source.old) (λ all. (p : Planned) → reading all ≡ Ok p → HasNo is_suspect p
         → (Rose (S.faults source.old) (S.faults source.new) → ⊥) → (Rose (K.faults sink.old) (K.faults sink.new) → ⊥) → OrMemory result.status Status.Done) }
-    ensures there { IsWriting result.status → OrMemory result.status Status.NoMemory ⊎ IsSome result.journal }
+    ensures there { IsWriting result.status → (result.status ≡ Status.NoMemory) ⊎ IsSome result.journal }
     ensures plan { IfSome result.journal (λ j. IfSome (S.left source.old) (λ all. reading all ≡ Ok (plan_of j))) }
     ensures to_end { OnSome result.journal (IsAtEnd (S.left source.new)) }
     ensures rehearsal { IfSome result.journal (λ j. IsRehearsalOf asked.seed result.status (plan_of j) (past_of j)) }
@@ -64,7 +64,7 @@ pub(crate) fn rehearse_scenario<S: Source, K: Sink>(
 /// Runs a plan and writes its text.
 fn run<K: Sink>(alloc: Global, asked: Rehearse, plan: Plan, sink: &mut K) -> Outcome<NoLine>
     ensures status { IsWriting result.status }
-    ensures there { OrMemory result.status Status.NoMemory ⊎ IsSome result.journal }
+    ensures there { (result.status ≡ Status.NoMemory) ⊎ IsSome result.journal }
     ensures plan { IfSome result.journal (λ j. plan_of j ≡ plan) }
     ensures rehearsal { IfSome result.journal (λ j. IsRehearsalOf asked.seed result.status (plan_of j) (past_of j)) }
     ensures complete { HasNo is_suspect plan → (Rose (K.faults sink.old) (K.faults sink.new) → ⊥) → OrMemory result.status Status.Done }
