@@ -117,6 +117,7 @@ fn with_item(alloc: Global, items: &[Item], item: Item) -> Result<Vec<Item>, NoM
 {
     let place = place_of(items, &item);
     let mut more = Vec::new(alloc);
+    more.reserve(items.len() + 1)?;
     copy_to(&mut more, &items[..place])?;
     more.push(item)?;
     copy_to(&mut more, &items[place..])?;

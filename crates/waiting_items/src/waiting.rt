@@ -134,6 +134,7 @@ fn copies(alloc: Global, rows: &[Row]) -> Result<Vec<Row>, NoMemory>
     ensures { IfOk result (λ copies. copies.items ≡ rows.now) }
 {
     let mut copies = Vec::new(alloc);
+    copies.reserve(rows.len())?;
     for row in rows {
         copies.push(row.copy()?)?;
     }
@@ -147,6 +148,7 @@ fn rows_without(alloc: Global, rows: &[Row], gone: &[Item]) -> Result<Vec<Row>, 
     ensures { IfOk result (λ left. left.items ≡ map (apart_from gone.now) rows.now) }
 {
     let mut left = Vec::new(alloc);
+    left.reserve(rows.len())?;
     for origin in 0..MAX_MEMBERS {
         let row = &rows[usize::from(origin)];
         left.push(row.without(alloc, origin, gone)?)?;
