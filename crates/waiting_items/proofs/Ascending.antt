@@ -12,10 +12,10 @@ use Rattle.consensus_rules.specs.Waiting.{insert}
 use Rattle.waiting_items.specs.Ids.{first_of}
 
 -- one item before another, in numbers
-abbrev Before : Item → Item → Type 0
+abbrev pub Before : Item → Item → Type 0
 Before x y = (origin_of x < origin_of y) ⊎ ((origin_of x ≡ origin_of y) × (number_of x < number_of y))
 
-before_from : (x y : Item) → stands_before x y ≡ true → Before x y
+pub before_from : (x y : Item) → stands_before x y ≡ true → Before x y
 before_from x y t =
     elim (or_cases (ltb (origin_of x) (origin_of y)) (eqb (origin_of x) (origin_of y) && ltb (number_of x) (number_of y)) t) [
       | inl lt ↦ inl (ltb-true (origin_of x) (origin_of y) lt)
@@ -24,7 +24,7 @@ before_from x y t =
           inr (eqb-true (origin_of x) (origin_of y) parts.0, ltb-true (number_of x) (number_of y) parts.1)
     ]
 
-before_to : (x y : Item) → Before x y → stands_before x y ≡ true
+pub before_to : (x y : Item) → Before x y → stands_before x y ≡ true
 before_to x y (inl lt) = or_left (ltb (origin_of x) (origin_of y)) (eqb (origin_of x) (origin_of y) && ltb (number_of x) (number_of y)) (lt-ltb (origin_of x) (origin_of y) lt)
 before_to x y (inr h) =
     or_right (ltb (origin_of x) (origin_of y)) (eqb (origin_of x) (origin_of y) && ltb (number_of x) (number_of y))
@@ -119,12 +119,12 @@ take_ascends (suc (suc k)) (x ∷ y ∷ ys) a =
     let parts : (stands_before x y ≡ true) × (ascends (y ∷ ys) ≡ true) = and_parts (stands_before x y) (ascends (y ∷ ys)) a in
     and_from (stands_before x y) (ascends (take (suc k) (y ∷ ys))) parts.0 (take_ascends (suc k) (y ∷ ys) parts.1)
 
-take_short : (k : ℕ) (xs : List Item) → length (take k xs) ≤ k
+pub take_short : (k : ℕ) (xs : List Item) → length (take k xs) ≤ k
 take_short zero xs = omega arith
 take_short (suc k) [] = omega arith
 take_short (suc k) (x ∷ xs) = omega (arith, take_short k xs)
 
-first_are : (xs : List Item) → ascends xs ≡ true → batch (take MAX_BATCH xs) ≡ first_of xs
+pub first_are : (xs : List Item) → ascends xs ≡ true → batch (take MAX_BATCH xs) ≡ first_of xs
 first_are [] a = refl
 first_are (x ∷ xs) a =
     let items : List Item = take MAX_BATCH (x ∷ xs) in
@@ -138,14 +138,3 @@ first_are (x ∷ xs) a =
     one_at_least : (k : ℕ) → 1 ≤ k → 1 ≤ length (take k (x ∷ xs))
     one_at_least zero le = absurd (omega (arith, le))
     one_at_least (suc k) le = omega arith
-
--- where so many were taken, or all of them
-pub first_taken : (k : ℕ) (xs : List Item) → ascends xs ≡ true → (k ≡ MAX_BATCH) ⊎ ((length xs ≤ k) × (k ≤ MAX_BATCH)) → batch (take k xs) ≡ first_of xs
-first_taken k xs a (inl e) = ap (λ j. batch (take j xs)) e ∙ first_are xs a
-first_taken k xs a (inr h) = ap batch (whole k xs h.0 ∙ sym (whole MAX_BATCH xs (let few : length xs ≤ k = h.0 in let low : k ≤ MAX_BATCH = h.1 in omega (arith, few, low)))) ∙ first_are xs a
-  where
-    whole : (k : ℕ) (xs : List Item) → length xs ≤ k → take k xs ≡ xs
-    whole zero [] le = refl
-    whole zero (x ∷ xs) le = absurd (omega (arith, le))
-    whole (suc k) [] le = refl
-    whole (suc k) (x ∷ xs) le = ap (λ l. x ∷ l) (whole k xs (omega (arith, le)))

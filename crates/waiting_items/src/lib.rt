@@ -1,6 +1,7 @@
 //! Items that wait to be ordered, by origin and number.
 #![tactic(auto)]
 
+mod row;
 #[cfg(test)]
 mod tests;
 mod waiting;

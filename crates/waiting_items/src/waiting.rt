@@ -1,33 +1,38 @@
-ghost use Rattle.std.specs.Prelude.{ℕ, All, false, ◌≡◌, ◌≤◌, ◌↔◌, ◌++◌, ◌∷◌, [], IfOk, IsTrue, OnOk, OnErr, drop, length, take};
+ghost use Rattle.std.specs.Prelude.{ℕ, All, true, false, ◌≡◌, ◌<◌, ◌==◌, ◌↔◌, [], IfOk, IsTrue, OnOk, OnErr, length, map, replicate, set};
+ghost use Rattle.std.specs.List.{list_all};
 ghost use Rattle.upd_base.specs.Item.{ItemFits};
+ghost use Rattle.upd_base.specs.declared.limits.TheConstants.{MAX_MEMBERS};
 ghost use Rattle.consensus_rules.specs.Items.{knows};
 ghost use Rattle.consensus_rules.specs.Waiting.{insert};
 ghost use Rattle.waiting_items.specs.Ids.{apart_from, first_of};
+ghost use Rattle.waiting_items.specs.Rows.{by_origin};
 
+use crate::row::{Row, add_first, knows};
 use std::alloc::Global;
 use std::marker::Model;
 use std::sync::Arc;
-use upd_base::{Batch, Item, MAX_BATCH, NoMemory};
+use upd_base::{Batch, Item, MAX_MEMBERS, NoMemory};
 
 /// Items in ascending order of origin and number, of each origin and number one.
 ///
-/// Copies share the items until one of them changes.
+/// The items of each member stand in a row of their own. Copies share the rows, and a change makes anew
+/// only the rows that it touches.
 #[derive(Drop)]
 pub struct Waiting {
-    items: Arc<Vec<Item>, Global>,
+    rows: Arc<Vec<Row>, Global>,
 }
 
 impl Model for Waiting {
-    ghost use Rattle.std.specs.Prelude.{◌≡◌, List, true};
+    ghost use Rattle.std.specs.Prelude.{List};
     ghost use Rattle.std.specs.Arc.{arc_value};
-    ghost use Rattle.upd_base.specs.Batch.{ascends};
     ghost use Rattle.upd_base.specs.declared.item.Item.{Item};
+    ghost use Rattle.waiting_items.specs.Rows.{joined, AreRows};
 
     ghost Value = { List Item };
 
-    ghost view = { λ w. (arc_value w.items).items };
+    ghost view = { λ w. joined (arc_value w.rows).items };
 
-    ghost invariant = { λ w. ascends (arc_value w.items).items ≡ true };
+    ghost invariant = { λ w. AreRows (arc_value w.rows).items };
 }
 
 impl Waiting {
@@ -35,15 +40,16 @@ impl Waiting {
     pub fn new(alloc: Global) -> Result<Waiting, NoMemory>
         ensures { IfOk result (λ w. w ≡ []) }
     {
-        let items = Arc::new(alloc, Vec::new(alloc))?;
-        Ok(Waiting { items })
+        let rows = empty_rows(alloc)?;
+        let rows = Arc::new(alloc, rows)?;
+        Ok(Waiting { rows })
     }
 
     /// Whether none waits.
     pub fn is_empty(&self) -> bool
         ensures { IsTrue result ↔ (self.now ≡ []) }
     {
-        self.items.is_empty()
+        are_empty(self.rows.as_slice())
     }
 
     /// Puts an item behind those that stand before it; where one waits with its origin and number, nothing
@@ -53,11 +59,14 @@ impl Waiting {
         ensures err { OnErr result (self.new ≡ self.old) }
         ensures fits { (n : ℕ) → ItemFits n item → All (ItemFits n) self.old → All (ItemFits n) self.new }
     {
-        if knows(self.items.as_slice(), &item) {
+        let place = usize::from(item.origin().get());
+        let row = &self.rows[place];
+        if knows(row.items(), &item) {
             return Ok(());
         }
-        let items = with_item(alloc, self.items.as_slice(), item)?;
-        self.items = Arc::new(alloc, items)?;
+        let row = row.with_item(alloc, item)?;
+        let rows = with_row(alloc, self.rows.as_slice(), place, row)?;
+        self.rows = Arc::new(alloc, rows)?;
         Ok(())
     }
 
@@ -66,8 +75,8 @@ impl Waiting {
         ensures ok { OnOk result (self.new ≡ apart_from gone.now self.old) }
         ensures err { OnErr result (self.new ≡ self.old) }
     {
-        let items = without(alloc, self.items.as_slice(), gone)?;
-        self.items = Arc::new(alloc, items)?;
+        let rows = rows_without(alloc, self.rows.as_slice(), gone)?;
+        self.rows = Arc::new(alloc, rows)?;
         Ok(())
     }
 
@@ -76,11 +85,8 @@ impl Waiting {
         ensures { IfOk result (λ batch. batch ≡ first_of self.now) }
     {
         let mut items = Vec::new(alloc);
-        for item in self.items.iter() {
-            if items.len() == MAX_BATCH {
-                break;
-            }
-            items.push(item.copy()?)?;
+        for row in self.rows.iter() {
+            add_first(&mut items, row.items())?;
         }
         Ok(Batch::new(items))
     }
@@ -89,65 +95,63 @@ impl Waiting {
     pub fn copy(&self) -> Result<Waiting, NoMemory>
         ensures { IfOk result (λ copy. copy ≡ self.now) }
     {
-        let items = self.items.clone()?;
-        Ok(Waiting { items })
+        let rows = self.rows.clone()?;
+        Ok(Waiting { rows })
     }
 }
 
-/// Whether one of the items has this one's origin and number.
-fn knows(items: &[Item], item: &Item) -> bool
-    ensures { result ≡ knows items.now item.now }
+/// An empty row for each member.
+fn empty_rows(alloc: Global) -> Result<Vec<Row>, NoMemory>
+    ensures { IfOk result (λ rows. rows.items ≡ replicate MAX_MEMBERS []) }
 {
-    items.iter().any(|other| other.has_id_of(item))
-}
-
-/// The items, with one more behind those that stand before it.
-fn with_item(alloc: Global, items: &[Item], item: Item) -> Result<Vec<Item>, NoMemory>
-    ensures { IfOk result (λ more. more.items ≡ insert item items.now) }
-{
-    let place = place_of(items, &item);
-    let mut more = Vec::new(alloc);
-    copy_to(&mut more, &items[..place])?;
-    more.push(item)?;
-    copy_to(&mut more, &items[place..])?;
-    Ok(more)
-}
-
-/// How many items stand before the first that does not stand before this one.
-fn place_of(items: &[Item], item: &Item) -> usize
-    ensures within { result ≤ length items.now }
-    ensures place { insert item.now items.now ≡ take result items.now ++ item.now ∷ drop result items.now }
-{
-    let mut place = 0;
-    while place < items.len() {
-        if !items[place].stands_before(item) {
-            return place;
-        }
-        place += 1;
+    let empty = Row::new(alloc, Vec::new(alloc))?;
+    let mut rows = Vec::new(alloc);
+    for member in 0..MAX_MEMBERS {
+        rows.push(empty.copy()?)?;
     }
-    place
+    Ok(rows)
 }
 
-/// Adds copies of the items.
-fn copy_to(copies: &mut Vec<Item>, items: &[Item]) -> Result<(), NoMemory>
-    ensures { OnOk result (copies.new.items ≡ copies.old.items ++ items.now) }
+/// Whether each of the rows is empty.
+fn are_empty(rows: &[Row]) -> bool
+    ensures { result ≡ list_all (λ row. length row == 0) rows.now }
 {
-    copies.reserve(items.len())?;
-    for item in items {
-        copies.push(item.copy()?)?;
-    }
-    Ok(())
+    rows.iter().all(|row| row.items().is_empty())
 }
 
-/// The items that have not the origin and number of one of the others.
-fn without(alloc: Global, items: &[Item], gone: &[Item]) -> Result<Vec<Item>, NoMemory>
-    ensures { IfOk result (λ left. left.items ≡ apart_from gone.now items.now) }
+/// The rows, with this one at that place.
+fn with_row(alloc: Global, rows: &[Row], place: usize, row: Row) -> Result<Vec<Row>, NoMemory>
+    requires { place < length rows.now }
+    ensures { IfOk result (λ new. new.items ≡ set rows.now place row) }
+{
+    let mut new = copies(alloc, rows)?;
+    new[place] = row;
+    Ok(new)
+}
+
+/// The same rows.
+fn copies(alloc: Global, rows: &[Row]) -> Result<Vec<Row>, NoMemory>
+    ensures { IfOk result (λ copies. copies.items ≡ rows.now) }
+{
+    let mut copies = Vec::new(alloc);
+    copies.reserve(rows.len())?;
+    for row in rows {
+        copies.push(row.copy()?)?;
+    }
+    Ok(copies)
+}
+
+/// The rows without each item that has the origin and number of one of these.
+fn rows_without(alloc: Global, rows: &[Row], gone: &[Item]) -> Result<Vec<Row>, NoMemory>
+    requires length { length rows.now ≡ MAX_MEMBERS }
+    requires origins { by_origin 0 rows.now ≡ true }
+    ensures { IfOk result (λ left. left.items ≡ map (apart_from gone.now) rows.now) }
 {
     let mut left = Vec::new(alloc);
-    for item in items {
-        if !knows(gone, item) {
-            left.push(item.copy()?)?;
-        }
+    left.reserve(rows.len())?;
+    for origin in 0..MAX_MEMBERS {
+        let row = &rows[usize::from(origin)];
+        left.push(row.without(alloc, origin, gone)?)?;
     }
     Ok(left)
 }

@@ -1,23 +1,35 @@
-use Rattle.std.proofs.Common.{rules, ◌≡◌, ◌≤◌, ◌⊎◌, inl, inr, length, sym, ap, ◌∙◌, List, arith}
-use Rattle.std.proofs.lemmas.List.{length-take-le}
+use Rattle.std.proofs.Common.{◌≡◌, ◌++◌, List, length, take, sym, ap, ◌∙◌, arith}
+use Rattle.std.proofs.lemmas.List.{take_all}
 use Rattle.upd_base.specs.Batch.{ascends, batch}
 use Rattle.upd_base.specs.declared.item.Item.{Item}
 use Rattle.upd_base.specs.declared.limits.TheConstants.{MAX_BATCH}
 use Rattle.waiting_items.specs.Ids.{first_of}
-use Rattle.waiting_items.proofs.Ascending.{first_taken}
+use Rattle.waiting_items.specs.Rows.{joined}
+use Rattle.waiting_items.proofs.Ascending.{first_are, take_short}
+use Rattle.waiting_items.proofs.Rows.{joined_more, take_twice}
 use Rattle.waiting_items.proofs.waiting.Waiting.first_batch.Goals as goal
-use Rattle.waiting_items.proofs.waiting.Waiting.first_batch.Goals.{else-loop-item-test, then-loop-item-test+then-len-eq-MAX_BATCH}
+
+pub add_first-requires : goal.add_first-requires
+add_first-requires c =
+    let before : List Item = joined (take c.loop-row.row-index c.deref-row-items.result.now) in
+    let same : length c.loop-row.items.items ≡ length (take MAX_BATCH before) = ap length c.loop-row.invariant in
+    omega (arith, same, take_short MAX_BATCH before)
+
+pub loop-row-preserved : goal.loop-row-preserved
+loop-row-preserved c =
+    let rows : List (List Item) = c.deref-row-items.result.now in
+    let before : List Item = joined (take c.loop-row.row-index rows) in
+    c.in_ok-add_first.ensures
+    ∙ ap (λ l. take MAX_BATCH (c.loop-row.items.items ++ l)) c.items.ensures
+    ∙ ap (λ l. take MAX_BATCH (l ++ c.row-item.result)) c.loop-row.invariant
+    ∙ take_twice MAX_BATCH before c.row-item.result
+    ∙ ap (take MAX_BATCH) (sym (joined_more rows c.loop-row.row-index c.row-item.result c.loop-row-test.true c.row-item.is))
 
 pub returns : goal.returns
 returns c =
-    let all : List Item = c.deref-item-items.result.now in
-    let is : all ≡ c.self.inside.items.value.items = c.deref-item-items.ensures.value ∙ ap (λ v. v.items) c.deref.ensures in
-    let taken : length c.loop-item.items.items ≡ c.loop-item.item-index = ap length c.loop-item.invariant.0 ∙ length-take-le c.loop-item.item-index all c.loop-item.auto.item-index-end in
-    let few : length c.loop-item.items.items ≤ MAX_BATCH = c.loop-item.invariant.1 in
-    let ended : (c.loop-item.item-index ≡ MAX_BATCH) ⊎ ((length all ≤ c.loop-item.item-index) × (c.loop-item.item-index ≤ MAX_BATCH)) = elim c.loop-item-test.branch [
-      | else-loop-item-test w ↦ inr (w.loop-item-test.false, omega (arith, taken, few))
-      | then-loop-item-test+then-len-eq-MAX_BATCH w ↦ (let full : length c.loop-item.items.items ≡ MAX_BATCH = search rules in inl (sym taken ∙ full))
-    ] in
-    c.new.ensures ∙ ap batch c.loop-item.invariant.0
-    ∙ first_taken c.loop-item.item-index all (ap ascends is ∙ c.self.invariant) ended
-    ∙ ap first_of (is ∙ c.self.view_is)
+    let rows : List (List Item) = c.deref-row-items.result.now in
+    let is : rows ≡ c.self.inside.rows.value.items = c.deref-row-items.ensures.value ∙ ap (λ v. v.items) c.deref.ensures in
+    c.new.ensures ∙ ap batch c.loop-row.invariant
+    ∙ ap (λ l. batch (take MAX_BATCH (joined l))) (take_all c.loop-row.row-index rows c.loop-row-test.false)
+    ∙ first_are (joined rows) (ap (λ l. ascends (joined l)) is ∙ c.self.invariant.2)
+    ∙ ap first_of (ap joined is ∙ c.self.view_is)

@@ -1,6 +1,6 @@
 use Rattle.std.proofs.Common.{length, ◌-◌, ◌≤◌, ◌≡◌, ◌++◌, take, drop}
 use Rattle.consensus_rules.specs.Waiting.{insert}
-use Rattle.waiting_items.proofs.waiting.place_of.Given as goal
+use Rattle.waiting_items.proofs.row.place_of.Given as goal
 
 -- those that were passed stand before the item
 abbrev pub invariant-loop-place : goal.invariant-loop-place
