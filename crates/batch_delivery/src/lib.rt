@@ -3,7 +3,8 @@
 #![tactic(auto)]
 
 mod delivery;
-#[cfg(test)]
-mod tests;
 
 pub use delivery::Delivery;
+
+#[cfg(test)]
+mod tests;

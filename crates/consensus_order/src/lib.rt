@@ -3,7 +3,8 @@
 
 mod consensus;
 mod ordering;
-#[cfg(test)]
-mod tests;
 
 pub use consensus::ConsensusOrder;
+
+#[cfg(test)]
+mod tests;

@@ -1,4 +1,4 @@
--- For which lists of inputs an instance stands.
+-- What an instance keeps, before and after its decision, by its inputs.
 use Rattle.std.specs.Prelude.{ℕ, true, ◌≡◌, ◌≤◌, Option, Some, None}
 use Rattle.instance_rules.specs.declared.place.Place.{Place}
 use Rattle.instance_rules.specs.Say.{Turns, last_round}

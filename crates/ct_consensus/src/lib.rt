@@ -12,8 +12,9 @@ mod running;
 mod seat;
 mod stance;
 mod state;
-#[cfg(test)]
-mod tests;
 
 pub use instance::Instance;
 pub use laws::stands_longer;
+
+#[cfg(test)]
+mod tests;

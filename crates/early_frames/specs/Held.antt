@@ -1,4 +1,4 @@
--- Frames that come before their time.
+-- Held frames as the code keeps them. Which wait, which is ready and what is left of them is said of group runs, word for word.
 use Rattle.std.specs.Prelude.{ℕ, Bool, ◌==◌, ◌&&◌, if◌then◌else◌, nat_le, Option, Some, None, List, [], ◌∷◌}
 use Rattle.std.specs.List.{list_any}
 use Rattle.upd_base.specs.declared.frame.Frame.{Frame}

@@ -1,4 +1,5 @@
-//! The theorem at a recorded run, for any ordering modules that keep the four laws.
+//! The theorem at a recorded run, for any ordering modules that keep the four laws. What holds of all runs is proved in `group_order`,
+//! `group_fulfilment` and `group_bound`.
 #![tactic(auto)]
 
 mod laws;

@@ -1,5 +1,5 @@
-//! The lines of a group in a call: which of them are still used, what came over them, and what is left of a run, made on one
-//! thread through them.
+//! The lines of a group while a run goes on: which of them are still used, what came over them, and how what is left of a run is
+//! made through them on one thread.
 #![tactic(auto)]
 
 mod bringing;

@@ -2,7 +2,8 @@
 #![tactic(auto)]
 
 mod table;
-#[cfg(test)]
-mod tests;
 
 pub use table::Instances;
+
+#[cfg(test)]
+mod tests;

@@ -1,3 +1,4 @@
+-- What a module of timestamps keeps of its inputs.
 use Rattle.std.specs.Prelude.{ℕ, ◌≡◌, ◌<◌, not, nat_le, slice_index, List}
 use Rattle.std.specs.List.{filter}
 use Rattle.upd_base.specs.declared.kind.Kind.TheVariants.{Lamport}

@@ -1,3 +1,5 @@
+-- Timestamps (Lamport, 1978): each member has a clock; an item goes to all with its sender's clock, and is
+-- delivered in the order of these stamps once a member has heard as much from every member.
 use Rattle.std.specs.Prelude.{ℕ, zero, suc, Bool, true, false, ◌==◌, ◌+◌, ◌-◌, ◌^◌, min, max, if◌then◌else◌, nat_le, List, [], ◌∷◌, map}
 use Rattle.std.specs.List.{filter}
 use Rattle.fifo_net.specs.Net.{Called, Took, taken}
@@ -10,9 +12,6 @@ use Rattle.request_queue.specs.declared.request.Request.{Request}
 use Rattle.request_queue.specs.Request.{insert}
 use Rattle.order_trait.specs.Runs.{Broadcast, Suspect, Trust, Inputs, KindSends, KindDelivers}
 use Rattle.order_trait.specs.Outbox.{to_all}
-
--- Timestamps (Lamport, 1978): each member has a clock; an item goes to all with its sender's clock, and is
--- delivered in the order of these stamps once a member has heard as much from every member.
 
 abbrev pub is_lamport : Kind → Bool
 is_lamport (Sequencer s) = false

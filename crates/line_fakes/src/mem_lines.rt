@@ -55,6 +55,7 @@ fn listed_for(
 impl MemLines {
     ghost use Rattle.line_fakes.specs.Seen.{line_fails, makings, put_fails, get_fails};
 
+    /// No line is made yet.
     pub fn new(alloc: Global, piece: usize, fails: Vec<LineFail>) -> MemLines
         requires { 0 < piece }
         ensures listed { line_fails result ≡ fails.items }

@@ -51,6 +51,7 @@ pub struct SureLines {
 }
 
 impl SureLines {
+    /// No line is made yet.
     pub fn new(alloc: Global) -> SureLines {
         SureLines { alloc }
     }

@@ -1,5 +1,5 @@
 pub mod Recorded
 pub mod Calls
 pub mod Pass
-pub mod Group
+pub mod SharedGroup
 pub mod Turns

@@ -36,7 +36,7 @@ pub struct LiveGroup<O: Ordering> {
 pub type GroupPass<O> = Pass<KeptJournal<O>>;
 
 impl<O: Ordering> LiveGroup<O> {
-    ghost use Rattle.live_group.specs.Group.{shared, plan_shared, IsPassOf};
+    ghost use Rattle.live_group.specs.SharedGroup.{shared, plan_shared, IsPassOf};
     ghost use Rattle.live_group.specs.Turns.{MakesOne};
 
     /// Shares a journal. The first pass has seen its events, owns none and has all `PARTS`. For want of memory the journal

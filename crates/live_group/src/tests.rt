@@ -4,7 +4,7 @@ ghost use Rattle.turn_lock.specs.declared.pass.TheConstants.{PARTS};
 ghost use Rattle.turn_lock.specs.Pass.{parts};
 ghost use Rattle.run_journal.specs.Journal.{plan_of, events_of};
 ghost use Rattle.live_group.specs.Calls.{StandInOrder};
-ghost use Rattle.live_group.specs.Group.{plan_shared, IsPassOf};
+ghost use Rattle.live_group.specs.SharedGroup.{plan_shared, IsPassOf};
 
 use super::*;
 use order_trait::Ordering;

@@ -1,4 +1,5 @@
-//! Lines by TCP on 127.0.0.1, both ends in this process. They tell how many bytes were put and got, and no bytes.
+//! Lines by TCP on 127.0.0.1, both ends in this process: what carries the bytes of a link. They tell how many bytes were put and got,
+//! and no bytes.
 #![tactic(auto)]
 
 mod loop_line;

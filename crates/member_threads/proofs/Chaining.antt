@@ -29,11 +29,11 @@ use Rattle.turn_lock.specs.Pass.{parts}
 use Rattle.live_group.specs.declared.recorded.Recorded.{Recorded}
 use Rattle.live_group.specs.declared.kept_journal.KeptJournal.{KeptJournal}
 use Rattle.live_group.specs.declared.group.LiveGroup.{LiveGroup}
-use Rattle.live_group.specs.Group.{shared, plan_shared, IsPassOf}
+use Rattle.live_group.specs.SharedGroup.{shared, plan_shared, IsPassOf}
 use Rattle.member_rules.specs.Kept.{rules_of}
 use Rattle.live_group.specs.Pass.{events_seen, places}
 use Rattle.line_rules.specs.Given.{IsEven}
-use Rattle.member_threads.specs.Group.{IsWorkersPass, MayServe}
+use Rattle.member_threads.specs.Worker.{IsWorkersPass, MayServe}
 use Rattle.member_threads.proofs.Knowing.{knows_joined, knows_nothing, knows_wider}
 use Rattle.member_threads.proofs.Working.{joined_none, none_joined, none_still, worked_still}
 

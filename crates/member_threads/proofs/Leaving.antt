@@ -12,14 +12,14 @@ use Rattle.turn_lock.specs.declared.pass.Pass.{Pass}
 use Rattle.live_group.specs.declared.recorded.Recorded.{Recorded}
 use Rattle.live_group.specs.declared.kept_journal.KeptJournal.{KeptJournal}
 use Rattle.live_group.specs.declared.group.LiveGroup.{LiveGroup}
-use Rattle.live_group.specs.Group.{shared, plan_shared}
+use Rattle.live_group.specs.SharedGroup.{shared, plan_shared}
 use Rattle.live_group.specs.Pass.{events_seen, places}
 use Rattle.upd_lines.specs.declared.line.Line.{Ghosts}
 use Rattle.line_rules.specs.Received.{GoesOn}
 use Rattle.line_rules.specs.Lines.{AreOnTheWay, AreReady}
 use Rattle.line_rules.specs.Rest.{GoesOnFullAtRestBut}
 use Rattle.line_rules.specs.declared.line_state.LineState.{LineState}
-use Rattle.member_threads.specs.Group.{HaveServed}
+use Rattle.member_threads.specs.Worker.{HaveServed}
 use Rattle.member_threads.proofs.Closing.{are_ready, full_of, on_the_way, run_goes_on}
 
 module _ {O : Type 0} {G : OrderGhosts O} (group : LiveGroup O G) {K : KeptGhosts (KeptJournal O G) Recorded} (journal closed : Journal O G) (pass : Pass (KeptJournal O G) Recorded K) (is : shared group ≡ journal) (plan : plan_of closed ≡ plan_shared group) (seen : IsPrefix (events_seen pass) (events_of closed))

@@ -2,7 +2,7 @@
 use Rattle.std.proofs.Common.{◌≡◌, ◌≢◌, refl}
 use Rattle.member_threads.specs.declared.step.Step.{Step}
 use Rattle.member_threads.specs.declared.step.Step.TheVariants.{Went, Nothing, Ended, Wanted}
-use Rattle.member_threads.specs.Group.{IfWent, UnlessWent}
+use Rattle.member_threads.specs.Worker.{IfWent, UnlessWent}
 
 pub if_unmade : (P : Type 0) (s : Step) → s ≢ Went → IfWent s P
 if_unmade P Went other = absurd (other refl)

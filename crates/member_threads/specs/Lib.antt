@@ -1,4 +1,4 @@
 pub mod Brought
 pub mod Knows
 pub mod Worked
-pub mod Group
+pub mod Worker

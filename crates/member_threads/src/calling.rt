@@ -2,9 +2,9 @@
 ghost use Rattle.std.specs.Prelude.{◌≡◌, ◌<◌, length};
 ghost use Rattle.turn_lock.specs.Lists.{IsPrefix};
 ghost use Rattle.turn_lock.specs.Pass.{parts};
-ghost use Rattle.live_group.specs.Group.{plan_shared};
+ghost use Rattle.live_group.specs.SharedGroup.{plan_shared};
 ghost use Rattle.live_group.specs.Pass.{events_seen};
-ghost use Rattle.member_threads.specs.Group.{IsWorkersPass};
+ghost use Rattle.member_threads.specs.Worker.{IsWorkersPass};
 
 use crate::step::Step;
 use live_group::{GroupPass, LiveGroup, Offer};

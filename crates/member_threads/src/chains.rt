@@ -4,11 +4,11 @@ ghost use denote.Param.Send.{IsSync};
 ghost use Rattle.upd_base.specs.Plan.{is_plan};
 ghost use Rattle.turn_lock.specs.Lists.{IsPrefix};
 ghost use Rattle.turn_lock.specs.Pass.{parts};
-ghost use Rattle.live_group.specs.Group.{plan_shared};
+ghost use Rattle.live_group.specs.SharedGroup.{plan_shared};
 ghost use Rattle.live_group.specs.Pass.{events_seen, places};
 ghost use Rattle.line_rules.specs.Given.{IsEven};
 ghost use Rattle.line_rules.specs.Lines.{IsEvenLine};
-ghost use Rattle.member_threads.specs.Group.{IsWorkersPass, HasWorked, HaveServed, MayServe};
+ghost use Rattle.member_threads.specs.Worker.{IsWorkersPass, HasWorked, HaveServed, MayServe};
 
 use crate::calling::make_calls;
 use crate::serving::{Served, serve_link};
@@ -54,7 +54,7 @@ fn put_back<L: Line>(left: &mut Left<L>, place: usize, line: Option<L>, state: L
 }
 
 /// The link whose line stands at a place.
-fn link_at(place: usize, members: u8) -> (MemberId, MemberId)
+fn link_at(members: u8, place: usize) -> (MemberId, MemberId)
     requires within { place < members * members }
     requires few { members ≤ 7 }
     ensures from { result.0 < members }
@@ -99,7 +99,7 @@ fn serve_links<O: Ordering, L: Line, R: Threads + Wait + Sync>(
         put_back(&mut left, place, None, LineState::Missing);
         return (pass, left);
     };
-    let (from, to) = link_at(place, members);
+    let (from, to) = link_at(members, place);
     let other = group.split(&mut pass);
     let ((theirs, served, short), (mut mine, mut left)) = thread::join(
         rt,

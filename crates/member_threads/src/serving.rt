@@ -9,12 +9,12 @@ ghost use Rattle.run_journal.specs.Causes.{open_frame, ReceiveCause};
 ghost use Rattle.run_journal.specs.declared.faults.ReceiveFault.{ReceiveFault};
 ghost use Rattle.turn_lock.specs.Lists.{IsPrefix};
 ghost use Rattle.turn_lock.specs.Pass.{parts};
-ghost use Rattle.live_group.specs.Group.{plan_shared, IsPassOf};
+ghost use Rattle.live_group.specs.SharedGroup.{plan_shared, IsPassOf};
 ghost use Rattle.live_group.specs.Pass.{events_seen, past_before, past_seen, places};
 ghost use Rattle.live_group.specs.Turns.{MakesOne};
 ghost use Rattle.line_rules.specs.Given.{IsEven};
 ghost use Rattle.member_threads.specs.Knows.{BringsNoMore};
-ghost use Rattle.member_threads.specs.Group.{IsWorkersPass, HasWorked, IfWent, UnlessWent, wants};
+ghost use Rattle.member_threads.specs.Worker.{IsWorkersPass, HasWorked, IfWent, UnlessWent, wants};
 ghost use Rattle.member_threads.specs.declared.step.Step.TheVariants.{Went};
 
 use crate::step::Step;

@@ -1,3 +1,4 @@
+-- Modules of every kind that is served, by the definitions of each kind.
 use Rattle.std.specs.Prelude.{Bool, true, ◌≡◌}
 use Rattle.upd_base.specs.declared.kind.Kind.{Kind}
 use Rattle.upd_base.specs.declared.kind.Kind.TheVariants.{Sequencer, Lamport, Consensus}
@@ -9,8 +10,6 @@ use Rattle.consensus_rules.specs.Delivered.{delivers_by}
 use Rattle.sequencer_rules.proofs.Laws as sequencer_laws
 use Rattle.lamport_rules.proofs.Laws as lamport_laws
 use Rattle.consensus_laws.proofs.Laws as consensus_laws
-
--- Modules of every kind that is served, by the definitions of each kind.
 
 abbrev pub is_served : Kind → Bool
 is_served (Sequencer s) = true

@@ -3,7 +3,8 @@
 #![tactic(auto)]
 
 mod runs;
-#[cfg(test)]
-mod tests;
 
 pub use runs::NumberRuns;
+
+#[cfg(test)]
+mod tests;

@@ -1,3 +1,4 @@
+-- What modules send and deliver.
 use Rattle.std.specs.Prelude.{ℕ, zero, suc, true, ◌≡◌, ◌<◌, List, [], ◌∷◌, ◌++◌, All}
 use Rattle.upd_base.specs.Body.{BodyFits, is_body}
 use Rattle.upd_base.specs.declared.body.Body.{Body}

@@ -1,3 +1,4 @@
+-- Modules of one kind, their runs, and the laws that a kind keeps.
 use Rattle.std.specs.Prelude.{ℕ, ◌≡◌, ◌≢◌, ◌+◌, ◌*◌, ◌<◌, ◌≤◌, ◌^◌, ◌⊎◌, List, [], ◌∷◌, ◌++◌, length, count_by, Contains}
 use Rattle.fifo_net.specs.Net.{Input, Called, Took, Step, Sends, IsRun, IsPrefix, inputs_of, taken_on, sent_on}
 use Rattle.upd_base.specs.Item.{id_of, has_id, origin_of, ItemFits}
@@ -5,8 +6,6 @@ use Rattle.upd_base.specs.Kind.{KindFits}
 use Rattle.upd_base.specs.declared.kind.Kind.{Kind}
 use Rattle.upd_base.specs.declared.item.Item.{Item}
 use Rattle.upd_base.specs.declared.body.Body.{Body}
-
--- Modules of one kind, their runs, and the laws that a kind keeps.
 
 -- What comes to a module from its own member: an item to broadcast, a suspicion, the end of one.
 pub data Order : Type 0 where

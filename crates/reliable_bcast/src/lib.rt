@@ -3,7 +3,8 @@
 #![tactic(auto)]
 
 mod rb;
-#[cfg(test)]
-mod tests;
 
 pub use rb::{Rb, Seen};
+
+#[cfg(test)]
+mod tests;

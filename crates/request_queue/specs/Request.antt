@@ -1,3 +1,4 @@
+-- Requests in the order of their stamps.
 use Rattle.std.specs.Prelude.{Bool, true, nat_lt, nat_le, ◌==◌, ◌||◌, ◌&&◌, if◌then◌else◌, List, [], ◌∷◌}
 use Rattle.request_queue.specs.declared.request.Request.{Request}
 

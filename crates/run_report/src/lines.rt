@@ -4,6 +4,7 @@ ghost use Rattle.run_report.specs.Report.{kind_text, state_text, item_text, entr
 use std::alloc::{AllocError, Global};
 use upd_base::{Entry, Item, Kind};
 
+/// A kind as scenarios and reports write it.
 #[tactic(auto, unfolding(crate::specs::Report::kind_text))]
 pub fn kind_text(alloc: Global, kind: Kind) -> Result<String, AllocError>
     ensures { IfOk result (λ s. string_bytes s ≡ kind_text kind) }
@@ -15,6 +16,7 @@ pub fn kind_text(alloc: Global, kind: Kind) -> Result<String, AllocError>
     }
 }
 
+/// Adds an item: a message with its payload, or a switch with its kind.
 #[tactic(auto, unfolding(crate::specs::Report::item_text))]
 pub fn put_item(alloc: Global, out: &mut Vec<u8>, item: &Item) -> Result<(), AllocError>
     ensures { OnOk result (out.new.items ≡ out.old.items ++ item_text item.now) }
@@ -41,6 +43,7 @@ pub fn put_item(alloc: Global, out: &mut Vec<u8>, item: &Item) -> Result<(), All
     }
 }
 
+/// Adds the line of a delivered item, with the version that delivered it.
 #[tactic(auto, unfolding(crate::specs::Report::entry_line))]
 pub fn put_entry(alloc: Global, out: &mut Vec<u8>, entry: &Entry) -> Result<(), AllocError>
     ensures { OnOk result (out.new.items ≡ out.old.items ++ entry_line entry.now) }
@@ -51,6 +54,7 @@ pub fn put_entry(alloc: Global, out: &mut Vec<u8>, entry: &Entry) -> Result<(), 
     Ok(out.push(b'\n')?)
 }
 
+/// How a member ended.
 #[tactic(auto, unfolding(crate::specs::Report::state_text))]
 pub fn state_text(crashed: bool) -> &'static str
     ensures { result.now ≡ state_text crashed }
@@ -58,6 +62,7 @@ pub fn state_text(crashed: bool) -> &'static str
     if crashed { "crashed" } else { "up" }
 }
 
+/// The first line of a member.
 pub fn member_line(
     alloc: Global,
     i: usize,
@@ -78,6 +83,7 @@ pub fn put(out: &mut Vec<u8>, text: &str) -> Result<(), AllocError>
     out.extend_from_slice(text.as_bytes())
 }
 
+/// Adds the lines of what a member delivered, in its order.
 pub fn put_entries(alloc: Global, out: &mut Vec<u8>, log: &[Entry]) -> Result<(), AllocError>
     ensures { OnOk result (out.new.items ≡ out.old.items ++ flat_map entry_line log.now) }
 {
@@ -100,6 +106,7 @@ pub fn run_line(
     format!(in alloc; "run: {members} members, {events} events, {made} of {planned} calls\n")
 }
 
+/// How many calls got each answer.
 pub fn answers_line(
     alloc: Global,
     accepted: usize,

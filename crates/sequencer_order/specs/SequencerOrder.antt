@@ -1,3 +1,4 @@
+-- What a module of a fixed sequencer keeps of its inputs.
 use Rattle.std.specs.Prelude.{◌≡◌, length}
 use Rattle.upd_base.specs.declared.kind.Kind.TheVariants.{Sequencer}
 use Rattle.order_trait.specs.Runs.{Inputs, Seat}

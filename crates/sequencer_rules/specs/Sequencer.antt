@@ -1,3 +1,5 @@
+-- The fixed sequencer (the class of that name of Défago, Schiper and Urbán, 2004): whoever broadcasts asks
+-- one member, the sequencer, which gives each item its place.
 use Rattle.std.specs.Prelude.{ℕ, Bool, true, false, ◌==◌, ◌+◌, ◌-◌, ◌^◌, min, if◌then◌else◌, List, [], ◌∷◌, ◌++◌, length}
 use Rattle.std.specs.List.{flat_map}
 use Rattle.fifo_net.specs.Net.{Called, Took, taken}
@@ -8,9 +10,6 @@ use Rattle.upd_base.specs.declared.body.Body.{Body}
 use Rattle.upd_base.specs.declared.body.Body.TheVariants.{Ask, Ord}
 use Rattle.order_trait.specs.Runs.{Broadcast, Suspect, Trust, Inputs, KindSends, KindDelivers}
 use Rattle.order_trait.specs.Outbox.{to_all}
-
--- The fixed sequencer (the class of that name of Défago, Schiper and Urbán, 2004): whoever broadcasts asks
--- one member, the sequencer, which gives each item its place.
 
 abbrev pub is_sequencer : Kind → Bool
 is_sequencer (Sequencer s) = true

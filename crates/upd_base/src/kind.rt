@@ -15,7 +15,7 @@ pub enum Kind {
 }
 
 impl Kind {
-    /// Whether the two are one item to the last byte.
+    /// Whether the two are one kind, of one sequencer where they name one.
     pub fn is_same(&self, other: &Kind) -> bool
         ensures { IsTrue result ↔ (self.now ≡ other.now) }
     {

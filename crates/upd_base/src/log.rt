@@ -40,12 +40,14 @@ impl Log {
         Ok(())
     }
 
+    /// How many entries there are.
     pub fn len(&self) -> usize
         ensures { result ≡ length self.now.entries }
     {
         self.kept.len()
     }
 
+    /// Whether there is no entry.
     pub fn is_empty(&self) -> bool
         ensures { IsTrue result ↔ (self.now.entries ≡ []) }
     {

@@ -34,6 +34,7 @@ impl MemberId {
         }
     }
 
+    /// Its number, from 0 to 6.
     pub fn get(self) -> u8
         ensures value { result ≡ self }
         ensures range { result < 7 }

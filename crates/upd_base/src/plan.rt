@@ -45,6 +45,7 @@ impl Plan {
         })
     }
 
+    /// How many members the group has, from 1 to 7.
     pub fn members(&self) -> u8
         ensures { result ≡ self.now.members }
     {

@@ -1,8 +1,7 @@
+-- What is seen of the fakes: which calls fail, and how many were made.
 use Rattle.std.specs.Prelude.{ℕ, List}
 use Rattle.upd_fakes.specs.declared.mem_sink.MemSink.{MemSink}
 use Rattle.upd_fakes.specs.declared.mem_source.MemSource.{MemSource}
-
--- What is seen of the fakes: which calls fail, and how many were made.
 
 -- the numbers of the reads that fail
 abbrev pub source_fails : MemSource → List ℕ

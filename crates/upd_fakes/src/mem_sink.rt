@@ -20,6 +20,7 @@ pub struct MemSink {
 impl MemSink {
     ghost use Rattle.upd_fakes.specs.Calls.{sink_fails, sink_writes};
 
+    /// It holds nothing yet.
     pub fn new(alloc: Global, piece: usize, fails: Vec<u64>) -> MemSink
         requires { 0 < piece }
         ensures held { ⟦<MemSink as Sink>⟧.held result ≡ Some [] }

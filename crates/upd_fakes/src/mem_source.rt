@@ -21,6 +21,7 @@ pub struct MemSource {
 impl MemSource {
     ghost use Rattle.upd_fakes.specs.Calls.{source_fails, source_reads};
 
+    /// Nothing of the bytes is read yet.
     pub fn new(bytes: Vec<u8>, piece: usize, fails: Vec<u64>) -> MemSource
         requires { 0 < piece }
         ensures left { ⟦<MemSource as Source>⟧.left result ≡ Some bytes.items }

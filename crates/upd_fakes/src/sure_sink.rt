@@ -11,6 +11,7 @@ pub struct SureSink {
 }
 
 impl SureSink {
+    /// It holds nothing yet.
     pub fn new(alloc: Global) -> SureSink
         ensures { ⟦<SureSink as Sink>⟧.held result ≡ Some [] }
     {

@@ -13,6 +13,7 @@ pub struct SureSource {
 }
 
 impl SureSource {
+    /// Nothing of the bytes is read yet.
     pub fn new(bytes: Vec<u8>) -> SureSource
         ensures { ⟦<SureSource as Source>⟧.left result ≡ Some bytes.items }
     {

@@ -1,7 +1,7 @@
 // Threads that make 1,000 calls in all, and receive while a member is full.
 ghost use Rattle.std.specs.Prelude.{◌≡◌, ◌+◌, ◌<◌, length};
 ghost use Rattle.turn_lock.specs.Pass.{parts};
-ghost use Rattle.live_group.specs.Group.{plan_shared, IsPassOf};
+ghost use Rattle.live_group.specs.SharedGroup.{plan_shared, IsPassOf};
 
 use super::*;
 use std::thread::{Threads, join};

@@ -1,5 +1,5 @@
 use Rattle.run_journal.specs.Journal.{events_of}
-use Rattle.live_group.specs.Group.{plan_shared}
+use Rattle.live_group.specs.SharedGroup.{plan_shared}
 use Rattle.live_group.specs.Pass.{events_seen, past_before}
 use Rattle.live_group.proofs.Standing.{stand_in_order}
 use Rattle.live_group.proofs.tests.two_calls.Goals as goal

@@ -2,7 +2,7 @@ use Rattle.std.proofs.Common.{◌≡◌}
 use Rattle.turn_lock.specs.Lists.{IsPrefix}
 use Rattle.turn_lock.specs.Pass.{parts}
 use Rattle.live_group.specs.Pass.{events_seen}
-use Rattle.member_threads.specs.Group.{IsWorkersPass}
+use Rattle.member_threads.specs.Worker.{IsWorkersPass}
 use Rattle.member_threads.proofs.calling.make_call.Given as goal
 
 abbrev pub invariant-loop : goal.invariant-loop

@@ -1,7 +1,7 @@
 use Rattle.std.proofs.Common.{◌≤◌, ◌<◌, ◌+◌, ◌-◌, rules, refl, sym, subst, arith, length}
 use Rattle.turn_lock.specs.Lists.{IsPrefix}
 use Rattle.turn_lock.specs.Pass.{parts}
-use Rattle.live_group.specs.Group.{shared, plan_shared}
+use Rattle.live_group.specs.SharedGroup.{shared, plan_shared}
 use Rattle.live_group.specs.Pass.{events_seen}
 use Rattle.run_journal.specs.Journal.{events_of}
 use Rattle.member_rules.specs.Kept.{rules_of}

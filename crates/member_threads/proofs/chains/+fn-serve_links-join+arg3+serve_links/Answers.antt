@@ -3,7 +3,7 @@ use Rattle.turn_lock.specs.Lists.{IsPrefix}
 use Rattle.turn_lock.specs.Pass.{parts}
 use Rattle.upd_base.proofs.PlanFacts.{plan_facts}
 use Rattle.line_rules.specs.declared.line_state.LineState.TheVariants.{Missing}
-use Rattle.live_group.specs.Group.{shared, plan_shared}
+use Rattle.live_group.specs.SharedGroup.{shared, plan_shared}
 use Rattle.live_group.specs.Pass.{events_seen}
 use Rattle.run_journal.specs.Journal.{events_of}
 use Rattle.member_threads.proofs.Knowing.{knows_wider}

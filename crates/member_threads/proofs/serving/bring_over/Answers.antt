@@ -1,7 +1,7 @@
 use Rattle.std.proofs.Common.{false, true, refl, inl, inr, subst}
 use Rattle.turn_lock.proofs.Lists.{IsPrefix-self}
 use Rattle.live_group.specs.Pass.{past_before}
-use Rattle.member_threads.specs.Group.{HasWorked, wants}
+use Rattle.member_threads.specs.Worker.{HasWorked, wants}
 use Rattle.member_threads.proofs.Steps.{was_unmade}
 use Rattle.member_threads.proofs.Working.{few_left, worked_aside, worked_more_at, worked_refused_at}
 use Rattle.member_threads.proofs.serving.bring_over.Goals as goal

@@ -1,5 +1,5 @@
 use Rattle.std.proofs.Common.{ℕ, ◌≡◌, ◌+◌, ◌*◌}
-use Rattle.live_group.specs.Group.{plan_shared}
+use Rattle.live_group.specs.SharedGroup.{plan_shared}
 use Rattle.member_threads.proofs.Knowing.{knows_freed}
 use Rattle.member_threads.proofs.Working.{none_freed}
 use Rattle.member_threads.proofs.serving.release_own.Goals as goal

@@ -1,5 +1,5 @@
 use Rattle.std.proofs.Common.{ℕ, ◌≡◌, ◌+◌, ◌*◌, refl, false, true}
-use Rattle.live_group.specs.Group.{plan_shared}
+use Rattle.live_group.specs.SharedGroup.{plan_shared}
 use Rattle.member_threads.proofs.Knowing.{knows_still}
 use Rattle.member_threads.proofs.Working.{none_still, worked_still}
 use Rattle.member_threads.proofs.serving.serve.Goals as goal

@@ -1,9 +1,9 @@
 use Rattle.std.proofs.Common.{◌≡◌, ◌+◌, ◌*◌, ◌<◌, false}
 use Rattle.turn_lock.specs.Lists.{IsPrefix}
 use Rattle.turn_lock.specs.Pass.{parts}
-use Rattle.live_group.specs.Group.{plan_shared}
+use Rattle.live_group.specs.SharedGroup.{plan_shared}
 use Rattle.live_group.specs.Pass.{events_seen}
-use Rattle.member_threads.specs.Group.{IsWorkersPass, HasWorked}
+use Rattle.member_threads.specs.Worker.{IsWorkersPass, HasWorked}
 use Rattle.member_threads.proofs.serving.serve_link.Given as goal
 
 abbrev pub invariant-loop : goal.invariant-loop

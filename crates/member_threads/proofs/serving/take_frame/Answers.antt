@@ -1,6 +1,6 @@
 use Rattle.member_threads.proofs.Knowing.{knows_taken}
 use Rattle.member_threads.proofs.Steps.{if_unmade, unless_unmade}
-use Rattle.live_group.specs.Group.{plan_shared}
+use Rattle.live_group.specs.SharedGroup.{plan_shared}
 use Rattle.std.proofs.Common.{ℕ, ◌≡◌, ◌+◌, ◌*◌, refl}
 use Rattle.member_threads.proofs.serving.take_frame.Goals as goal
 

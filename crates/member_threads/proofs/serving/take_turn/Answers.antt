@@ -1,7 +1,7 @@
 use Rattle.std.proofs.Common.{ℕ, ◌≡◌, ◌+◌, ◌*◌, false, ◌∙◌}
 use Rattle.turn_lock.proofs.Lists.{IsPrefix-trans}
-use Rattle.live_group.specs.Group.{plan_shared}
-use Rattle.member_threads.specs.Group.{wants}
+use Rattle.live_group.specs.SharedGroup.{plan_shared}
+use Rattle.member_threads.specs.Worker.{wants}
 use Rattle.member_threads.proofs.Knowing.{knows_still}
 use Rattle.member_threads.proofs.Working.{none_after, none_still, worked_still}
 use Rattle.member_threads.proofs.serving.take_turn.Goals as goal

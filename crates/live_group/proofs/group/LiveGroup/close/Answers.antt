@@ -1,6 +1,6 @@
 use Rattle.std.proofs.Common.{ap, ◌∙◌}
 use Rattle.run_journal.specs.Journal.{plan_of}
-use Rattle.live_group.specs.Group.{plan_shared}
+use Rattle.live_group.specs.SharedGroup.{plan_shared}
 use Rattle.live_group.specs.Recorded.{event_places}
 use Rattle.live_group.proofs.Entries.{begin_entries, opening_events}
 use Rattle.live_group.proofs.OwnPlaces.{new_event_places}

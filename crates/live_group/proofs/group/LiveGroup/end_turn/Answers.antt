@@ -1,7 +1,7 @@
 use Rattle.std.proofs.Common.{sym, ap, ◌∙◌, subst}
 use Rattle.run_journal.specs.Journal.{plan_of, events_of}
 use Rattle.turn_lock.specs.Pass.{seen, own, noted}
-use Rattle.live_group.specs.Group.{plan_shared}
+use Rattle.live_group.specs.SharedGroup.{plan_shared}
 use Rattle.live_group.specs.Recorded.{entries, events_in, event_places, AreBehind, HasPlan}
 use Rattle.live_group.proofs.Entries.{events_made, adds_noted}
 use Rattle.live_group.proofs.OwnPlaces.{behind_new, places_after, rise_events}

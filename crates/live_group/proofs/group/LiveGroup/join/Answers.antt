@@ -1,6 +1,6 @@
 use Rattle.std.proofs.Common.{sym, ap, ◌∙◌, subst}
 use Rattle.turn_lock.specs.Pass.{seen, own}
-use Rattle.live_group.specs.Group.{plan_shared}
+use Rattle.live_group.specs.SharedGroup.{plan_shared}
 use Rattle.live_group.specs.Recorded.{events_in, event_places, AreBehind, HasPlan}
 use Rattle.live_group.proofs.Entries.{begin_events, events_longer, plan_longer}
 use Rattle.live_group.proofs.OwnPlaces.{behind_merged, merged_down, rise_events}

@@ -1,6 +1,6 @@
 use Rattle.std.proofs.Common.{◌≡◌}
 use Rattle.turn_lock.specs.Pass.{parts}
-use Rattle.live_group.specs.Group.{IsPassOf}
+use Rattle.live_group.specs.SharedGroup.{IsPassOf}
 use Rattle.live_group.proofs.tests.threads.make_calls.Given as goal
 
 abbrev pub invariant-loop : goal.invariant-loop

@@ -12,7 +12,7 @@ use Rattle.turn_lock.specs.declared.pass.Pass.{Pass}
 use Rattle.live_group.specs.declared.recorded.Recorded.{Recorded}
 use Rattle.live_group.specs.declared.kept_journal.KeptJournal.{KeptJournal}
 use Rattle.live_group.specs.declared.group.LiveGroup.{LiveGroup}
-use Rattle.live_group.specs.Group.{shared, plan_shared, IsPassOf}
+use Rattle.live_group.specs.SharedGroup.{shared, plan_shared, IsPassOf}
 use Rattle.live_group.specs.Pass.{events_seen, places}
 use Rattle.upd_lines.specs.declared.line.Line.{Ghosts as LineGhosts}
 use Rattle.line_rules.specs.declared.line_state.LineState.{LineState}
