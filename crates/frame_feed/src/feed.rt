@@ -23,9 +23,9 @@ pub struct Feed {
     taken: usize,
     /// How many of the bytes are taken or read.
     read: usize,
-    /// Where the text of a payload ends that is being read; nowhere behind what is read, where none is.
+    /// Where the text ends that is to come there; not behind it where none is to come.
     text_end: usize,
-    /// How far the reading of the next frame had come where that text began.
+    /// How far the reading of the next frame has come there, but for the size of that text.
     stage: Stage,
 }
 
