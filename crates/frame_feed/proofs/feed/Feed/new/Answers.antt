@@ -1,4 +1,4 @@
-use Rattle.std.proofs.Common.{◌≤◌, length, arith}
+use Rattle.std.proofs.Common.{arith}
 use Rattle.frame_feed.proofs.Amid.{starts}
 use Rattle.frame_feed.proofs.feed.Feed.new.Goals as goal
 
