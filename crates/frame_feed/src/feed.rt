@@ -1,10 +1,11 @@
-ghost use Rattle.std.specs.Prelude.{◌≡◌, ◌≤◌, ◌<◌, ◌++◌, [], Err, IfOk, IfSome, IsTrue, OnOk, OnErr, drop, length, vec_len};
+ghost use Rattle.std.specs.Prelude.{◌≡◌, ◌≤◌, ◌<◌, ◌-◌, ◌++◌, [], Err, IfOk, IfSome, IsTrue, OnOk, OnErr, drop, length, vec_len};
 ghost use Rattle.std.specs.List.{list_all};
 ghost use Rattle.upd_base.specs.Text.{is_printable};
 ghost use Rattle.upd_frame.specs.Reading.{front};
 ghost use Rattle.upd_frame.specs.declared.fault.FrameFault.TheVariants.{Short};
 ghost use Rattle.upd_frame.specs.Spelling.{spelling, IsFrame};
 ghost use Rattle.frame_feed.specs.Stream.{IsNext};
+ghost use Rattle.frame_feed.specs.Fed.{with_text};
 
 use std::alloc::Global;
 use std::marker::Model;
@@ -22,19 +23,21 @@ pub struct Feed {
     taken: usize,
     /// How many of the bytes are taken or read.
     read: usize,
-    /// How far the reading of the next frame has come there.
+    /// Where the text ends that is to come there; not behind it where none is to come.
+    text_end: usize,
+    /// How far the reading of the next frame has come there, but for the size of that text.
     stage: Stage,
 }
 
 impl Model for Feed {
-    ghost use Rattle.std.specs.Prelude.{ℕ, List, drop};
-    ghost use Rattle.frame_feed.specs.Fed.{IsFed};
+    ghost use Rattle.std.specs.Prelude.{ℕ, List, ◌-◌, drop};
+    ghost use Rattle.frame_feed.specs.Fed.{IsFed, with_text};
 
     ghost Value = { List ℕ };
 
     ghost view = { λ f. drop f.taken f.bytes.items };
 
-    ghost invariant = { λ f. IsFed f.bytes.items f.taken f.read f.stage };
+    ghost invariant = { λ f. IsFed f.bytes.items f.taken f.read (with_text (f.text_end - f.read) f.stage) };
 }
 
 /// Moves the bytes behind the first so many to the front.
@@ -45,6 +48,19 @@ fn drop_front(bytes: &mut Vec<u8>, count: usize)
     let left = bytes.len() - count;
     bytes.copy_within(count.., 0);
     bytes.truncate(left);
+}
+
+/// Moves what is left behind so many bytes to the front, where that is worth it. How many bytes are taken then.
+fn trim(bytes: &mut Vec<u8>, taken: usize) -> usize
+    requires { taken ≤ vec_len bytes.old }
+    ensures within { result ≤ vec_len bytes.new }
+    ensures left { drop result bytes.new.items ≡ drop taken bytes.old.items }
+{
+    if taken < FEW || taken < bytes.len() / 2 {
+        return taken;
+    }
+    drop_front(bytes, taken);
+    0
 }
 
 fn is_printable(byte: u8) -> bool
@@ -62,6 +78,38 @@ fn all_printable(bytes: &[u8]) -> bool
     }
 }
 
+/// The stage with so many bytes of text still to come, where some are.
+fn with_text(size: usize, stage: Stage) -> Stage
+    ensures { result ≡ with_text size stage }
+{
+    if size == 0 {
+        return stage;
+    }
+    match stage {
+        Stage::Start => Stage::Within {
+            size,
+            count: 0,
+            before: None,
+        },
+        Stage::Within { count, before, .. } => Stage::Within {
+            size,
+            count,
+            before,
+        },
+    }
+}
+
+/// Where the text ends that the stage waits for at this place.
+fn text_end(at: usize, stage: Stage) -> usize
+    ensures { with_text (result - at) stage ≡ stage }
+{
+    match stage {
+        Stage::Start => at,
+        // No payload is so long that its end is past all places.
+        Stage::Within { size, .. } => at.checked_add(size).unwrap_or(at),
+    }
+}
+
 impl Feed {
     /// A stream of which nothing has come.
     pub fn new(alloc: Global) -> Feed
@@ -71,6 +119,7 @@ impl Feed {
             bytes: Vec::new(alloc),
             taken: 0,
             read: 0,
+            text_end: 0,
             stage: Stage::Start,
         }
     }
@@ -89,16 +138,14 @@ impl Feed {
     }
 
     /// Takes so many bytes, those of the frame that was read.
+    #[tactic(auto, using(crate::proofs::Amid::starts))]
     fn take(&mut self, size: usize)
         requires { size ≤ length self.old }
         ensures { self.new ≡ drop size self.old }
     {
-        self.taken += size;
-        if self.taken >= FEW && self.taken >= self.bytes.len() / 2 {
-            drop_front(&mut self.bytes, self.taken);
-            self.taken = 0;
-        }
+        self.taken = trim(&mut self.bytes, self.taken + size);
         self.read = self.taken;
+        self.text_end = self.taken;
         self.stage = Stage::Start;
     }
 
@@ -107,16 +154,11 @@ impl Feed {
         ensures unchanged { self.new ≡ self.old }
         ensures short { IsTrue result → front self.old ≡ Err Short }
     {
-        let Stage::Within { size, .. } = &mut self.stage else {
-            return false;
-        };
-        let unread = &self.bytes[self.read..];
-        let came = unread.len();
-        if came >= *size || !all_printable(unread) {
+        let came = self.bytes.len();
+        if came >= self.text_end || !all_printable(&self.bytes[self.read..]) {
             return false;
         }
-        *size -= came;
-        self.read += came;
+        self.read = came;
         true
     }
 
@@ -130,9 +172,10 @@ impl Feed {
             return Ok(None);
         }
         let mut at = self.read - self.taken;
-        let mut stage = self.stage;
+        let mut stage = with_text(self.text_end.saturating_sub(self.read), self.stage);
         let read = read_on(&self.bytes[self.taken..], &mut at, &mut stage);
         self.read = self.taken + at;
+        self.text_end = text_end(self.read, stage);
         self.stage = stage;
         match read {
             Ok(()) => self.take_frame(alloc),
