@@ -39,7 +39,15 @@ fn run<M: LineMaker, R: Threads + Wait + Sync>(
     let words = words_of(alloc, &["run", "memory"])?;
     let mut source = SureSource::new(Vec::from_slice(alloc, TWO_SENDS.as_bytes())?);
     let mut sink = SureSink::new(alloc);
-    let outcome = live(rt, alloc, words.as_slice(), &mut source, &mut sink, maker, &OpenGate);
+    let outcome = live(
+        rt,
+        alloc,
+        words.as_slice(),
+        &mut source,
+        &mut sink,
+        maker,
+        &OpenGate,
+    );
     let journal = outcome.journal.ok_or("no journal")?;
     if journal.plan().members() != 3 {
         return Err("another plan")?;
@@ -113,7 +121,11 @@ fn a_lie_is_told_before_a_line_that_is_down(rt: HostRuntime) -> Result<(), Fail>
     let alloc = rt.alloc();
     let ran = run(&rt, alloc, &mut TwoLies::new(alloc, member(0)?, member(2)?))?;
     assert_eq!(rt; (ran.status, ran.events), (8, 4));
-    assert!(rt; ran.text.as_str().ends_with("end: line 0 2 lied at 0: put 00, got 01\n"));
+    assert!(rt;
+        ran.text
+            .as_str()
+            .ends_with("end: line 0 2 lied at 0: put 00, got 01\n")
+    );
     Ok(())
 }
 
@@ -138,7 +150,11 @@ fn each_byte_of_a_line_lies(rt: HostRuntime) -> Result<(), Fail> {
         let mut maker = LieLines::new(alloc, member(1)?, member(0)?, at);
         let ran = run(&rt, alloc, &mut maker)?;
         assert_eq!(rt; (ran.status, ran.events, ran.delivered), (8, 6, [1, 1, 1]));
-        assert!(rt; ran.text.as_str().contains(format!(in alloc; "end: line 1 0 lied at {at}: put ")?.as_str()));
+        assert!(rt;
+            ran.text.as_str().contains(format!(in alloc;
+                "end: line 1 0 lied at {at}: put "
+            )?.as_str())
+        );
     }
     let mut maker = LieLines::new(alloc, member(1)?, member(0)?, 12);
     let ran = run(&rt, alloc, &mut maker)?;
@@ -157,7 +173,15 @@ fn reads_back<R: Threads + Wait + Sync>(
     let mut source = SureSource::new(Vec::from_slice(alloc, scenario)?);
     let mut sink = SureSink::new(alloc);
     let mut maker = MemLines::new(alloc, 64, vec![in alloc; one]?);
-    let outcome = live(rt, alloc, words.as_slice(), &mut source, &mut sink, &mut maker, &OpenGate);
+    let outcome = live(
+        rt,
+        alloc,
+        words.as_slice(),
+        &mut source,
+        &mut sink,
+        &mut maker,
+        &OpenGate,
+    );
     match read_journal::<Module>(alloc, sink.bytes()) {
         Ok(read) if read.len() == outcome.journal.ok_or("no journal")?.len() => {}
         _ => return Err("a text that is not the journal's")?,

@@ -2,8 +2,8 @@
 ghost use Rattle.std.specs.Prelude.{◌<◌};
 
 use crate::given::{TWO_SENDS, done, done_in_pieces, generated, words_of};
-use std::alloc::Global;
 use program_texts::Status;
+use std::alloc::Global;
 use std::test::*;
 use top_calls::plain;
 use upd_fakes::{MemSink, MemSource, SureSink, SureSource};

@@ -24,7 +24,15 @@ fn run<M: LineMaker, G: Gate, R: Threads + Wait + Sync>(
     let words = words_of(alloc, &["run", "loopback", "short"])?;
     let mut source = SureSource::new(Vec::from_slice(alloc, scenario)?);
     let mut sink = SureSink::new(alloc);
-    let outcome = live(rt, alloc, words.as_slice(), &mut source, &mut sink, maker, gate);
+    let outcome = live(
+        rt,
+        alloc,
+        words.as_slice(),
+        &mut source,
+        &mut sink,
+        maker,
+        gate,
+    );
     let journal = outcome.journal.ok_or("no journal")?;
     let text = String::from_utf8_lossy(alloc, sink.bytes())?;
     Ok((outcome.status.code(), journal.len(), text))

@@ -5,11 +5,11 @@ ghost use Rattle.program_texts.specs.Rules.{the_rules};
 ghost use Rattle.run_journal.specs.Journal.{plan_of, past_of};
 ghost use Rattle.program_texts.specs.Texts.{checked_text, down_line, end_line, fault_text, journal_fault_text, lied_line, lied_text, reason_text, refusal_text, run_text, two_digits, usage};
 
-use crate::status::Status;
 use crate::run_end::End;
-use program_words::Form;
+use crate::status::Status;
 use journal_file::{JournalFault, journal_text};
 use module_binding::Module;
+use program_words::Form;
 use run_journal::Journal;
 use run_report::report_text;
 use scenario::{Reason, ScenarioFault};

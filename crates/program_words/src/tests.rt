@@ -30,7 +30,10 @@ fn rehearsals(rt: HostRuntime) -> Result<(), Fail> {
         form: Form::Journal,
     });
     assert_eq!(rt; asked(alloc, &["rehearse"])?, Some(plain));
-    assert_eq!(rt; asked(alloc, &["rehearse", "007", "journal"])?, Some(seeded));
+    assert_eq!(rt;
+        asked(alloc, &["rehearse", "007", "journal"])?,
+        Some(seeded)
+    );
     assert_eq!(rt; asked(alloc, &["rehearse", "short", "7"])?, None);
     assert_eq!(rt; asked(alloc, &["rehearse", "18446744073709551616"])?, None);
     Ok(())
@@ -64,7 +67,10 @@ fn runs(rt: HostRuntime) -> Result<(), Fail> {
         form: Form::Short,
     };
     assert_eq!(rt; asked_run(alloc, &["run", "memory"])?, Some(memory));
-    assert_eq!(rt; asked_run(alloc, &["run", "loopback", "short"])?, Some(loopback));
+    assert_eq!(rt;
+        asked_run(alloc, &["run", "loopback", "short"])?,
+        Some(loopback)
+    );
     assert_eq!(rt; asked_run(alloc, &["run"])?, None);
     assert_eq!(rt; asked_run(alloc, &["rehearse"])?, None);
     Ok(())

@@ -6,10 +6,10 @@ ghost use Rattle.top_calls.specs.Checked.{IsWritten, WroteText};
 ghost use Rattle.program_texts.specs.declared.status.Status.{Status};
 
 use crate::outcome::Outcome;
-use program_texts::Status;
 use crate::refusals::without_journal;
-use program_words::Generate;
 use crate::writing::write_text;
+use program_texts::Status;
+use program_words::Generate;
 use scenario_gen::generate;
 use std::alloc::Global;
 use upd_base::{NoLine, NoMemory, Sink};

@@ -5,9 +5,9 @@ ghost use Rattle.run_journal.specs.Journal.{events_of, plan_of};
 ghost use Rattle.journal_file.specs.Reading.{IsJournalText};
 ghost use Rattle.top_calls.specs.Checked.{JournalCause, journal_refused};
 
-use program_texts::Status;
 use journal_file::{JournalFault, MAX_TEXT, read_journal};
 use module_binding::Module;
+use program_texts::Status;
 use run_journal::Journal;
 use std::alloc::Global;
 use upd_base::{EdgeFault, Source};

@@ -5,8 +5,7 @@ ghost use Rattle.top_calls.specs.Causes.{IsRefusal, OrMemory, Told};
 ghost use Rattle.program_texts.specs.Texts.{refusal_text};
 
 use crate::outcome::Outcome;
-use program_texts::Status;
-use program_texts::refusal_text;
+use program_texts::{Status, refusal_text};
 use std::alloc::Global;
 use upd_base::{EdgeFault, Sink};
 use upd_io::write_all;

@@ -15,13 +15,12 @@ ghost use Rattle.program_texts.specs.declared.status.Status.{Status};
 
 use crate::journal::{keeps_laws, opening, rehearse};
 use crate::outcome::Outcome;
-use program_texts::Status;
 use crate::refusals::{refuse, without_journal};
-use program_texts::End;
 use crate::scenario_input::plan_from;
-use program_words::{Form, Rehearse};
 use crate::writing::write_run;
 use module_binding::Module;
+use program_texts::{End, Status};
+use program_words::{Form, Rehearse};
 use rehearsal::{RehearsalEnd, Rehearsed};
 use run_journal::Journal;
 use std::alloc::Global;

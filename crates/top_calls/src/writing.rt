@@ -6,11 +6,9 @@ ghost use Rattle.top_calls.specs.Causes.{IsAt, WroteRunOf, status_at, status_of}
 ghost use Rattle.top_calls.specs.Checked.{IsWritten, WroteText, unwritten};
 ghost use Rattle.program_texts.specs.declared.status.Status.{Status};
 
-use program_texts::Status;
-use program_texts::End;
-use program_texts::run_text;
-use program_words::Form;
 use module_binding::Module;
+use program_texts::{End, Status, run_text};
+use program_words::Form;
 use run_journal::Journal;
 use std::alloc::Global;
 use upd_base::{EdgeFault, NoMemory, Sink};
