@@ -1,5 +1,5 @@
 use Rattle.run_journal.specs.Journal.{events_of, plan_of}
-use Rattle.top_calls.proofs.Checks.{fault_told, is_of_check, none_told, text_told, told_cause, written_told}
+use Rattle.top_calls.proofs.Checks.{fault_told, is_of_check, none_told, text_told, told_cause}
 use Rattle.top_calls.proofs.check.check_journal.Goals as goal
 
 pub returns-in-Err-clause-kind : goal.returns-in-Err-clause-kind

@@ -3,7 +3,7 @@ use Rattle.run_journal.specs.Journal.{plan_of, past_of}
 use Rattle.top_calls.specs.Live.{IsLiveRun}
 use Rattle.top_calls.specs.Made.{AreMade}
 use Rattle.top_calls.proofs.LiveRuns.{live_run_of}
-use Rattle.top_calls.proofs.live.run_over.Goals as goal
+use Rattle.top_calls.proofs.line_runs.run_over.Goals as goal
 
 pub returns-clause-live_run : goal.returns-clause-live_run
 returns-clause-live_run g c =

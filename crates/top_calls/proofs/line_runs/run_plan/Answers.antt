@@ -6,7 +6,7 @@ use Rattle.top_calls.specs.Live.{IsLiveRun}
 use Rattle.top_calls.specs.Made.{AreMade}
 use Rattle.program_texts.specs.declared.status.Status.TheVariants as statuses
 use Rattle.top_calls.proofs.LiveRuns.{complete_of, not_none, some_then}
-use Rattle.top_calls.proofs.live.run_plan.Goals as goal
+use Rattle.top_calls.proofs.line_runs.run_plan.Goals as goal
 
 pub make_lines-requires-after_bounds : goal.make_lines-requires-after_bounds
 make_lines-requires-after_bounds g c κs within =

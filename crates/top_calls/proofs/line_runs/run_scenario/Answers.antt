@@ -5,7 +5,7 @@ use Rattle.top_calls.specs.Causes.{OrMemory}
 use Rattle.top_calls.specs.Live.{AreFaithful, AreSteady, IsComplete, IsLied, IsRunStatus}
 use Rattle.program_texts.specs.declared.status.Status.TheVariants as statuses
 use Rattle.top_calls.proofs.Scenarios.{none_ends, none_kind, none_refused, none_run, none_there, plan_ends, plan_no_fault}
-use Rattle.top_calls.proofs.live.run_scenario.Goals as goal
+use Rattle.top_calls.proofs.line_runs.run_scenario.Goals as goal
 
 pub returns-in-Ok-clause-scenario_only : goal.returns-in-Ok-clause-scenario_only
 returns-in-Ok-clause-scenario_only g c =
