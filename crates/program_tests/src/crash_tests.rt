@@ -29,7 +29,7 @@ fn begun(alloc: Global, text: &str) -> Result<Journal<Module>, Fail> {
 fn make(alloc: Global, journal: &mut Journal<Module>, event: &Event) -> Result<(), Fail> {
     let members = journal.plan().members();
     let made = match *event {
-        Event::Call { thread, .. } if (thread as usize) < journal.plan().threads() => {
+        Event::Call { thread, .. } if thread < journal.plan().threads() => {
             journal.call(alloc, thread).is_ok()
         }
         Event::Receive { from, to } if from.get() < members && to.get() < members => {

@@ -22,6 +22,7 @@ fn member(id: u8) -> Result<MemberId, Fail> {
 
 /// What a run came to: its exit status, how many events it has, how many entries each of three members delivered, at which place
 /// the first line is missing, and what the sink got.
+#[derive(Drop)]
 struct Ran {
     status: u8,
     events: u64,
@@ -144,17 +145,15 @@ fn a_line_that_nothing_goes_over_fails(rt: HostRuntime) -> Result<(), Fail> {
 #[test]
 fn each_byte_of_a_line_lies(rt: HostRuntime) -> Result<(), Fail> {
     let alloc = rt.alloc();
-    // The request of member 1: version 0, a request, a message of member 1 with number 0 and one byte of text.
-    let put: [u8; 12] = [0, 0, 1, 0, 1, 0, 0, 0, 0, 1, 0, 0x61];
-    for at in 0usize..12 {
-        let mut maker = LieLines::new(alloc, member(1)?, member(0)?, at);
+    // Member 1 asks for its first message: version 0, an ask, a message of origin 1, number 0, one byte of text.
+    let frame: [u8; 12] = [0, 0, 1, 0, 1, 0, 0, 0, 0, 0, 1, 0x61];
+    for (at, put) in frame.iter().enumerate() {
+        let mut maker = LieLines::new(alloc, member(1)?, member(0)?, at as u64);
         let ran = run(&rt, alloc, &mut maker)?;
+        let got = put ^ 1;
+        let end = format!(in alloc; "end: line 1 0 lied at {at}: put {put:02x}, got {got:02x}\n")?;
         assert_eq!(rt; (ran.status, ran.events, ran.delivered), (8, 6, [1, 1, 1]));
-        assert!(rt;
-            ran.text.as_str().contains(format!(in alloc;
-                "end: line 1 0 lied at {at}: put "
-            )?.as_str())
-        );
+        assert!(rt; ran.text.as_str().ends_with(end.as_str()));
     }
     let mut maker = LieLines::new(alloc, member(1)?, member(0)?, 12);
     let ran = run(&rt, alloc, &mut maker)?;
@@ -193,7 +192,7 @@ fn reads_back<R: Threads + Wait + Sync>(
 fn calls_of_lines_fail_under_a_switch(rt: HostRuntime) -> Result<(), Fail> {
     let alloc = rt.alloc();
     let scenario = generated(alloc, "7", "60")?;
-    for nth in [1u64, 2, 3, 5, 8, 13, 21, 34, 55, 89, 144] {
+    for nth in [1u64, 2, 8, 34] {
         for way in [Way::Put, Way::Get] {
             let one = fail(2, 0, way, nth)?;
             let status = reads_back(&rt, alloc, scenario.as_slice(), one)?;

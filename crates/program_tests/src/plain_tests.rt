@@ -106,7 +106,7 @@ fn refused_journals(rt: HostRuntime) -> Result<(), Fail> {
 }
 
 #[test]
-fn generated(rt: HostRuntime) -> Result<(), Fail> {
+fn scenarios_by_a_seed(rt: HostRuntime) -> Result<(), Fail> {
     let alloc = rt.alloc();
     let (status, text) = run(alloc, &["gen", "7", "4"], "", &[1], &[])?;
     assert_eq!(rt; (status, text.as_str()), (0, GENERATED));
@@ -149,7 +149,7 @@ fn fails_at_each_place(alloc: Global, scenario: &[u8], piece: usize) -> Result<(
     }
     for nth in 1..=(scenario.len() / piece + 1) as u64 {
         let (status, text) = done_in_pieces(alloc, &words, scenario, piece, &[nth], &[])?;
-        if status != 3 || text.as_slice() != b"source failed\n" {
+        if status != 3 || text.as_slice() != b"source failed\n".as_slice() {
             return Err("another refusal")?;
         }
     }
@@ -168,12 +168,13 @@ fn fails_at_each_place(alloc: Global, scenario: &[u8], piece: usize) -> Result<(
 
 #[test]
 fn each_byte_of_an_edge_fails(rt: HostRuntime) -> Result<(), Fail> {
-    fails_at_each_place(rt.alloc(), TWO_SENDS.as_bytes(), 1)
+    let alloc = rt.alloc();
+    fails_at_each_place(alloc, TWO_SENDS.as_bytes(), 1)
 }
 
 #[test]
 fn each_piece_of_an_edge_fails_under_a_switch(rt: HostRuntime) -> Result<(), Fail> {
     let alloc = rt.alloc();
     let scenario = generated(alloc, "7", "60")?;
-    fails_at_each_place(alloc, scenario.as_slice(), 64)
+    fails_at_each_place(alloc, scenario.as_slice(), 512)
 }
