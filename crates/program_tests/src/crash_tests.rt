@@ -4,7 +4,7 @@ ghost use Rattle.std.specs.Prelude.{◌≡◌, ◌<◌};
 use group_laws::canon;
 use module_binding::Module;
 use rehearsal::{RehearsalEnd, round_robin};
-use run_journal::Journal;
+use run_journal::{Journal, serves};
 use scenario::read;
 use std::alloc::Global;
 use std::test::*;
@@ -22,6 +22,9 @@ const CRASHES: [&str; 2] = [
 
 fn begun(alloc: Global, text: &str) -> Result<Journal<Module>, Fail> {
     let plan = read(alloc, text.as_bytes()).ok().ok_or("a plan")?;
+    if !serves::<Module>(&plan) {
+        return Err("kinds that are served")?;
+    }
     Ok(Journal::begin(alloc, plan)?)
 }
 

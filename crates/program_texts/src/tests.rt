@@ -1,7 +1,7 @@
 use crate::{End, Status, checked_text, refusal_text, run_text};
 use module_binding::Module;
 use program_words::Form;
-use run_journal::Journal;
+use run_journal::{Journal, serves};
 use std::alloc::Global;
 use std::test::*;
 use upd_base::{Kind, Plan};
@@ -18,14 +18,14 @@ member 0: version 0, lamport, up, 0 delivered
 end: a run
 ";
 
+/// A journal without events, of a member to whom nothing is asked.
 fn journal(alloc: Global) -> Result<Journal<Module>, Fail> {
-    let Some(plan) = Plan::new(1, Kind::Lamport, Vec::new(alloc)) else {
-        return Err("a plan")?;
-    };
-    match Journal::begin(alloc, plan) {
-        Ok(journal) => Ok(journal),
-        Err(_) => Err("memory")?,
+    let threads = vec![in alloc; Vec::new(alloc)]?;
+    let plan = Plan::new(1, Kind::Lamport, threads).ok_or("a plan")?;
+    if !serves::<Module>(&plan) {
+        return Err("kinds that are served")?;
     }
+    Ok(Journal::begin(alloc, plan)?)
 }
 
 #[test]
@@ -49,6 +49,6 @@ fn refusals(rt: HostRuntime) -> Result<(), Fail> {
     let not_a_run = Status::NotARun(12);
     assert_eq!(rt; not_a_run.code(), 10);
     let text = refusal_text(alloc, &not_a_run)?;
-    assert_eq!(rt; text.as_slice(), b"not a run: event 12\n");
+    assert_eq!(rt; text.as_slice(), b"not a run: event 12\n".as_slice());
     Ok(())
 }
