@@ -1,5 +1,5 @@
 //! Runs with threads over lines that fail or lie at each place.
-ghost use Rattle.std.specs.Prelude.{◌<◌};
+ghost use Rattle.std.specs.Prelude.{◌≡◌, IfOk};
 
 use crate::given::{TWO_SENDS, generated, words_of};
 use crate::two_lies::TwoLies;
@@ -16,7 +16,9 @@ use upd_fakes::{SureSink, SureSource};
 use upd_lines::LineMaker;
 use worker_gates::OpenGate;
 
-fn member(id: u8) -> Result<MemberId, Fail> {
+fn member(id: u8) -> Result<MemberId, Fail>
+    ensures { IfOk result (λ m. m ≡ id) }
+{
     Ok(MemberId::new(id).ok_or("no member")?)
 }
 
