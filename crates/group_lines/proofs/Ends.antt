@@ -11,19 +11,20 @@ use Rattle.group_run.specs.Settled.{IsSettled}
 use Rattle.run_journal.specs.Causes.{open_frame}
 use Rattle.upd_lines.specs.Line.{Told}
 use Rattle.upd_lines.specs.declared.line.Line.{Ghosts}
-use Rattle.line_rules.specs.Given.{GaveExactly}
+use Rattle.line_rules.specs.Given.{GaveBytes, GaveExactly}
 use Rattle.line_rules.specs.Received.{bytes_of, carried, listed, next_bytes, received_since}
 use Rattle.line_rules.specs.LineState.{HasCome, IsAt, IsLie, IsSetAside}
 use Rattle.line_rules.specs.Lines.{AreOnTheWay, CameBack, ComeBack, HasCarried, IsAside, IsAsideLine, IsDown, IsDownLine, IsLying, line_at, state_at}
 use Rattle.line_rules.specs.Rest.{GoesOnFullAtRestBut, IsHeldUp}
-use Rattle.line_rules.specs.Ends.{EndsRun, ToldLie}
+use Rattle.line_rules.specs.Ends.{EndsRun, IsHonestLine, ToldLie}
 use Rattle.line_rules.specs.declared.line_state.Lie.{Lie}
 use Rattle.line_rules.specs.declared.line_state.LineState.{LineState}
 use Rattle.line_rules.specs.declared.line_state.LineState.TheVariants.{Missing, Serving, Down, Lied, Stopped}
 use Rattle.line_rules.specs.declared.run_end.RunEnd.{RunEnd}
 use Rattle.line_rules.specs.declared.run_end.RunEnd.TheVariants as ends
+use Rattle.line_rules.proofs.Receiving.{prefix_more}
 use Rattle.group_lines.specs.Visits.{IsLeftOut, LinkStands}
-use Rattle.group_lines.specs.Told.{IsDownLink, IsDownState, IsLyingState, TellsEnd}
+use Rattle.group_lines.specs.Told.{IsDownLink, IsDownState, IsLyingState, NoneLied, TellsEnd}
 use Rattle.group_lines.proofs.Giving.{bytes_map}
 use Rattle.group_lines.proofs.Going.{full_trans, full_wider, rest_wider}
 use Rattle.group_lines.proofs.OneLink.{place_within, receipt_open, same_link}
@@ -129,6 +130,21 @@ is_down G rules plan start past first lines states way from to f t down =
     line_down G (received_since rules plan start past from to) (listed (next_frame rules plan past from to)) (line_at plan.members first from to) (line_at plan.members lines from to) (state_at plan.members states from to)
     (way.each from to f t) down
 
+part_honest : (carried next part : List ℕ) (old new : Told) → IsPrefix part next → GaveExactly old new (carried ++ part) → GaveBytes old.bytes new.bytes (λ given. IsPrefix given (carried ++ next))
+part_honest carried next part old new front gave =
+    bytes_map old.bytes new.bytes _ _ (λ x e. subst (λ (given : List ℕ). IsPrefix given (carried ++ next)) (sym e) (prefix_more carried part next front)) gave.bytes
+
+line_honest : {L : Type 0} (G : Ghosts L) (frames next : List Frame) (old new : Option L) (state : LineState) → HasCome G frames next old new state → (IsLyingState state → ⊥) → IsHonestLine G (bytes_of frames) (bytes_of next) old new
+line_honest G frames next None None state come honest = tt
+line_honest G frames next None (Some new) state come honest = tt
+line_honest G frames next (Some old) None state come honest = tt
+line_honest G frames next (Some old) (Some new) Missing come honest = absurd come.0
+line_honest G frames next (Some old) (Some new) (Serving count) come honest =
+    part_honest (bytes_of frames) (bytes_of next) [] (G.told old) (G.told new) (bytes_of next, refl) (subst (GaveExactly (G.told old) (G.told new)) (sym (append-nil (bytes_of frames))) come.0.gave)
+line_honest G frames next (Some old) (Some new) Down ((rose, (part, front, gave)), later) honest = part_honest (bytes_of frames) (bytes_of next) part (G.told old) (G.told new) front gave
+line_honest G frames next (Some old) (Some new) (Lied lie) come honest = absurd (honest tt)
+line_honest G frames next (Some old) (Some new) Stopped ((part, front, gave), later) honest = part_honest (bytes_of frames) (bytes_of next) part (G.told old) (G.told new) front gave
+
 -- The end of a run ---------------------------------------------------------------------------------------------------
 
 told_lie : {L : Type 0} (G : Ghosts L) (frames next : List Frame) (old new : Option L) (lie : Lie) → HasCome G frames next old new (Lied lie) → ToldLie G (bytes_of frames) (bytes_of next) old new lie
@@ -153,12 +169,15 @@ ends_run G rules plan start past first lines states (ends.Lied from to at put go
       (way.each from to held.from_member held.to_member));
   held_up = held_wider (IsLeftOut plan states) (IsAside G rules plan start past first lines) rules plan past (is_aside G rules plan start past first lines states way) held.held_up;
 }
-ends_run G rules plan start past first lines states (ends.Down from to) way (held, down) = record {
+ends_run G rules plan start past first lines states (ends.Down from to) way (held, down, honest) = record {
   left_off = held.left_off;
   from_member = held.from_member;
   to_member = held.to_member;
   is_down = is_down G rules plan start past first lines states way from to held.from_member held.to_member down;
   held_up = held_wider (IsDownLink plan states) (IsDown G plan first lines) rules plan past (is_down G rules plan start past first lines states way) held.held_up;
+  honest = λ i j f t.
+      line_honest G (received_since rules plan start past i j) (listed (next_frame rules plan past i j)) (line_at plan.members first i j) (line_at plan.members lines i j) (state_at plan.members states i j)
+      (way.each i j f t) (honest i j f t);
 }
 ends_run G rules plan start past first lines states ends.NoMemory way told = tt
 
@@ -179,12 +198,16 @@ aside_down Down aside honest = tt
 aside_down (Lied lie) aside honest = absurd (honest tt)
 aside_down Stopped aside honest = absurd aside
 
+-- where no state is that of a line that lied, no link's is
+pub none_lied : (plan : Planned) (states : List LineState) → ((place : ℕ) → place < length states → IsLyingState (get_or states place Missing) → ⊥) → length states ≡ plan.members * plan.members → NoneLied plan states
+none_lied plan states honest places from to f t = honest (from * plan.members + to) (let w = place_within plan.members from to f t in omega arith)
+
 -- where no line lied, those that are set aside are down
 pub held_down : (rules : Rules) (plan : Planned) (past : Events) (states : List LineState) → ((place : ℕ) → place < length states → IsLyingState (get_or states place Missing) → ⊥) → length states ≡ plan.members * plan.members
     → IsHeldUp (IsLeftOut plan states) rules plan past → IsHeldUp (IsDownLink plan states) rules plan past
 held_down rules plan past states honest places held =
     held_wider (IsLeftOut plan states) (IsDownLink plan states) rules plan past
-    (λ from to f t aside. aside_down (state_at plan.members states from to) aside (honest (from * plan.members + to) (let w = place_within plan.members from to f t in omega arith))) held
+    (λ from to f t aside. aside_down (state_at plan.members states from to) aside (none_lied plan states honest places from to f t)) held
 
 -- a run that is held up only where nothing can be received is settled
 pub held_settled : (rules : Rules) (plan : Planned) (past : Events) (states : List LineState)

@@ -31,6 +31,10 @@ IsDownState state = ⊥
 abbrev pub IsDownLink : Planned → List LineState → ℕ → ℕ → Type 0
 IsDownLink plan states from to = IsDownState (state_at plan.members states from to)
 
+-- no line is known to have lied
+abbrev pub NoneLied : Planned → List LineState → Type 0
+NoneLied plan states = (from to : ℕ) → from < plan.members → to < plan.members → IsLyingState (state_at plan.members states from to) → ⊥
+
 -- The run is left off, and held up but for links that are left out.
 pub record IsHeldOff (left_out : ℕ → ℕ → Type 0) (rules : Rules) (plan : Planned) (past : Events) (from to : ℕ) : Type 0 where
   pub left_off : IsLeftOff rules plan past
@@ -43,5 +47,5 @@ abbrev pub TellsEnd : Rules → Planned → Events → List LineState → RunEnd
 TellsEnd rules plan past all Settled = IsSettled rules plan past
 TellsEnd rules plan past all Spent = (length past ≡ bound plan) × (IsSettled rules plan past → ⊥)
 TellsEnd rules plan past all (Lied from to at put got) = IsHeldOff (IsLeftOut plan all) rules plan past from to × (state_at plan.members all from to ≡ states.Lied (record { at = at; put = put; got = got }))
-TellsEnd rules plan past all (Down from to) = IsHeldOff (IsDownLink plan all) rules plan past from to × IsDownLink plan all from to
+TellsEnd rules plan past all (Down from to) = IsHeldOff (IsDownLink plan all) rules plan past from to × IsDownLink plan all from to × NoneLied plan all
 TellsEnd rules plan past all NoMemory = Unit {0}

@@ -1,7 +1,10 @@
-ghost use Rattle.std.specs.Prelude.{◌≡◌, ◌++◌, ◌<◌, IfOk, OnOk, flat_map, length, map, string_bytes};
+ghost use Rattle.std.specs.Prelude.{◌≡◌, ◌++◌, ◌<◌, ◌≤◌, All, IfOk, OnOk, flat_map, length, map, string_bytes};
 ghost use Rattle.upd_base.specs.declared.event.Event.TheVariants.{Call as CallEvent};
 ghost use Rattle.upd_base.specs.Plan.{steps_of};
 ghost use Rattle.run_journal.specs.Journal.{plan_of, events_of};
+ghost use Rattle.journal_file.specs.declared.limits.TheConstants.{MAX_TEXT};
+ghost use Rattle.journal_file.specs.Grammar.{AnswerFits, EventFits, IsNumber, TextFits};
+ghost use Rattle.journal_file.specs.Reading.{HasPayloads, IsJournalText};
 ghost use Rattle.journal_file.specs.Text.{answer_text, call_text, ended, event_line, event_lines, events_line, first_line, journal_text, kind_text, members_line, plan_lines, step_line, text_of, thread_line, thread_lines, threads_line};
 
 use order_trait::Ordering;
@@ -9,10 +12,23 @@ use run_journal::Journal;
 use std::alloc::{AllocError, Global};
 use upd_base::{Answer, Call, Event, Kind, NoMemory, Plan, Step};
 
-/// The text of a journal: its plan and its events. Each has one spelling.
-#[tactic(auto, unfolding(crate::specs::Text::journal_text))]
+/// The text of a journal: its plan and its events. Each has one spelling, and a text of at most `MAX_TEXT` bytes is read back.
 pub fn journal_text<O: Ordering>(alloc: Global, journal: &Journal<O>) -> Result<Vec<u8>, NoMemory>
-    ensures { IfOk result (λ text. text.items ≡ journal_text (plan_of journal.now) (events_of journal.now)) }
+    ensures text { IfOk result (λ text. text.items ≡ journal_text (plan_of journal.now) (events_of journal.now)) }
+    ensures readable { IfOk result (λ text. length text.items ≤ MAX_TEXT → IsJournalText text.items (plan_of journal.now) (events_of journal.now)) }
+{
+    journal.plan().keeps_limits();
+    let _few = journal.len();
+    let text = whole_text(alloc, journal)?;
+    Ok(text)
+}
+
+/// The text of a journal, and that its plan and its events keep the limits of a text.
+#[tactic(auto, unfolding(crate::specs::Text::journal_text))]
+fn whole_text<O: Ordering>(alloc: Global, journal: &Journal<O>) -> Result<Vec<u8>, NoMemory>
+    ensures text { IfOk result (λ text. text.items ≡ journal_text (plan_of journal.now) (events_of journal.now)) }
+    ensures payloads { OnOk result (HasPayloads (plan_of journal.now)) }
+    ensures fit { OnOk result (All EventFits (events_of journal.now)) }
 {
     let mut out = Vec::new(alloc);
     put(&mut out, "journal 1\n")?;
@@ -31,7 +47,8 @@ fn put(out: &mut Vec<u8>, text: &str) -> Result<(), AllocError>
 
 /// The lines of a plan.
 fn put_plan(alloc: Global, out: &mut Vec<u8>, plan: &Plan) -> Result<(), AllocError>
-    ensures { OnOk result (out.new.items ≡ out.old.items ++ text_of (plan_lines plan.now)) }
+    ensures out { OnOk result (out.new.items ≡ out.old.items ++ text_of (plan_lines plan.now)) }
+    ensures fits { OnOk result (HasPayloads plan.now) }
 {
     put_head(alloc, out, plan.members(), plan.first(), plan.threads())?;
     for thread in 0..plan.threads() {
@@ -59,7 +76,8 @@ fn put_head(
 /// The lines of a thread.
 fn put_thread(alloc: Global, out: &mut Vec<u8>, plan: &Plan, thread: u8) -> Result<(), AllocError>
     requires { thread < length plan.now.threads }
-    ensures { OnOk result (out.new.items ≡ out.old.items ++ text_of (thread_lines (steps_of plan.now thread))) }
+    ensures out { OnOk result (out.new.items ≡ out.old.items ++ text_of (thread_lines (steps_of plan.now thread))) }
+    ensures fits { OnOk result (All (λ s. TextFits s.call) (steps_of plan.now thread)) }
 {
     let steps = plan.steps(thread);
     put_thread_head(alloc, out, steps)?;
@@ -78,7 +96,8 @@ fn put_thread_head(alloc: Global, out: &mut Vec<u8>, steps: u16) -> Result<(), A
 
 #[tactic(auto, unfolding(crate::specs::Text::step_line))]
 fn put_step(alloc: Global, out: &mut Vec<u8>, step: &Step) -> Result<(), AllocError>
-    ensures { OnOk result (out.new.items ≡ out.old.items ++ ended (step_line step.now)) }
+    ensures out { OnOk result (out.new.items ≡ out.old.items ++ ended (step_line step.now)) }
+    ensures fits { OnOk result (TextFits step.now.call) }
 {
     let at = format!(in alloc; "{} ", step.at.get())?;
     put(out, at.as_str())?;
@@ -88,10 +107,12 @@ fn put_step(alloc: Global, out: &mut Vec<u8>, step: &Step) -> Result<(), AllocEr
 
 #[tactic(auto, unfolding(crate::specs::Text::call_text))]
 fn put_call(alloc: Global, out: &mut Vec<u8>, call: &Call) -> Result<(), AllocError>
-    ensures { OnOk result (out.new.items ≡ out.old.items ++ call_text call.now) }
+    ensures out { OnOk result (out.new.items ≡ out.old.items ++ call_text call.now) }
+    ensures fits { OnOk result (TextFits call.now) }
 {
     match call {
         Call::Send(text) => {
+            text.keeps_limits();
             put(out, "send ")?;
             out.extend_from_slice(text.bytes())
         }
@@ -118,7 +139,8 @@ fn kind_text(alloc: Global, kind: Kind) -> Result<String, AllocError>
 
 /// How many events there are, and a line for each.
 fn put_events(alloc: Global, out: &mut Vec<u8>, events: &[Event]) -> Result<(), AllocError>
-    ensures { OnOk result (out.new.items ≡ out.old.items ++ text_of (event_lines events.now)) }
+    ensures out { OnOk result (out.new.items ≡ out.old.items ++ text_of (event_lines events.now)) }
+    ensures fits { OnOk result (All EventFits events.now) }
 {
     put_events_head(alloc, out, events.len())?;
     for event in events {
@@ -136,7 +158,8 @@ fn put_events_head(alloc: Global, out: &mut Vec<u8>, count: usize) -> Result<(),
 
 #[tactic(auto, unfolding(crate::specs::Text::event_line))]
 fn put_event(alloc: Global, out: &mut Vec<u8>, event: &Event) -> Result<(), AllocError>
-    ensures { OnOk result (out.new.items ≡ out.old.items ++ ended (event_line event.now)) }
+    ensures out { OnOk result (out.new.items ≡ out.old.items ++ ended (event_line event.now)) }
+    ensures fits { OnOk result (EventFits event.now) }
 {
     match event {
         Event::Call {
@@ -162,7 +185,8 @@ fn put_call_event(
     member: u8,
     answer: &Answer,
 ) -> Result<(), AllocError>
-    ensures { OnOk result (out.new.items ≡ out.old.items ++ ended (event_line (CallEvent thread index member answer.now))) }
+    ensures out { OnOk result (out.new.items ≡ out.old.items ++ ended (event_line (CallEvent thread index member answer.now))) }
+    ensures fits { OnOk result (EventFits (CallEvent thread index member answer.now)) }
 {
     let answer = answer_text(alloc, answer)?;
     let line = format!(in alloc; "call {thread} {index} {member} {answer}\n")?;
@@ -171,10 +195,14 @@ fn put_call_event(
 
 #[tactic(auto, unfolding(crate::specs::Text::answer_text))]
 fn answer_text(alloc: Global, answer: &Answer) -> Result<String, AllocError>
-    ensures { IfOk result (λ s. string_bytes s ≡ answer_text answer.now) }
+    ensures text { IfOk result (λ s. string_bytes s ≡ answer_text answer.now) }
+    ensures fits { AnswerFits answer.now }
 {
     match answer {
-        Answer::Accepted(number) => format!(in alloc; "accepted {number}"),
+        Answer::Accepted(number) => {
+            is_number(*number);
+            format!(in alloc; "accepted {number}")
+        }
         Answer::Done => String::from_str(alloc, "done"),
         Answer::Full => String::from_str(alloc, "full"),
         Answer::Crashed => String::from_str(alloc, "crashed"),
@@ -182,4 +210,11 @@ fn answer_text(alloc: Global, answer: &Answer) -> Result<String, AllocError>
         Answer::BadKind => String::from_str(alloc, "bad kind"),
         Answer::BadMember => String::from_str(alloc, "bad member"),
     }
+}
+
+/// A number of 32 bits is one that a text has: a law.
+fn is_number(number: u32)
+    ensures { IsNumber number }
+{
+    let _number = number;
 }

@@ -1,4 +1,4 @@
--- What is seen of the lines in memory: which calls fail, and how many were made.
+-- What is seen of the lines in memory: which calls fail, how many were made, and how many bytes go in one.
 use Rattle.std.specs.Prelude.{ℕ, ◌+◌, ◌*◌, ◌==◌, ◌&&◌, if◌then◌else◌, List, Option, Some, None, slice_index}
 use Rattle.line_fakes.specs.declared.mem_line.MemLine.{MemLine}
 use Rattle.line_fakes.specs.declared.mem_lines.MemLines.{MemLines}
@@ -19,13 +19,20 @@ get_fails l = l.get_fails.items
 abbrev pub gets : MemLine → ℕ
 gets l = l.gets
 
+-- how many bytes a put takes, and a get gives, at most
+abbrev pub piece_of : MemLine → ℕ
+piece_of l = l.piece
+
 -- the place of a pair of members in a table
 abbrev pub pair : ℕ → ℕ → ℕ
 pair from to = from * 7 + to
 
--- the fails of a maker, and how many lines from one member to another were to be made
+-- the fails of a maker, how many bytes its lines take at most, and how many lines from one member to another were to be made
 abbrev pub line_fails : MemLines → List LineFail
 line_fails m = m.fails.items
+
+abbrev pub pieces : MemLines → ℕ
+pieces m = m.piece
 
 abbrev pub makings : MemLines → ℕ → ℕ → ℕ
 makings m from to = slice_index m.made (pair from to)

@@ -5,6 +5,7 @@ pub(crate) fn copy_front(left: &[u8], buf: &mut [u8], piece: usize) -> usize
     requires { 0 < piece }
     ensures bound { result ≤ length buf.new }
     ensures within { result ≤ length left.now }
+    ensures piece { result ≤ piece }
     ensures copied { take result buf.new ≡ take result left.now }
     ensures end { result ≡ 0 → 0 < length buf.new → length left.now ≡ 0 }
 {

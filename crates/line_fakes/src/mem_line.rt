@@ -1,4 +1,4 @@
-ghost use Rattle.std.specs.Prelude.{◌≡◌, ◌≤◌, ◌<◌, [], length, IsErrOf};
+ghost use Rattle.std.specs.Prelude.{◌≡◌, ◌≤◌, ◌<◌, [], length, IfOk, IsErrOf};
 ghost use Rattle.upd_base.specs.Edge.{HasCause};
 ghost use Rattle.upd_lines.specs.Line.{Gets, Puts};
 ghost use Rattle.line_fakes.specs.Bytes.{honest, honest_is_sound};
@@ -26,7 +26,7 @@ pub struct MemLine {
 }
 
 impl MemLine {
-    ghost use Rattle.line_fakes.specs.Seen.{put_fails, puts, get_fails, gets};
+    ghost use Rattle.line_fakes.specs.Seen.{put_fails, puts, get_fails, gets, piece_of};
 
     pub(crate) fn new(
         alloc: Global,
@@ -41,6 +41,7 @@ impl MemLine {
         ensures get_list { get_fails result ≡ failing_gets.items }
         ensures no_puts { puts result ≡ 0 }
         ensures no_gets { gets result ≡ 0 }
+        ensures piece { piece_of result ≡ piece }
     {
         MemLine {
             bytes: Vec::new(alloc),
@@ -56,7 +57,7 @@ impl MemLine {
 }
 
 impl Line for MemLine {
-    ghost use Rattle.line_fakes.specs.Seen.{put_fails, puts, get_fails, gets};
+    ghost use Rattle.line_fakes.specs.Seen.{put_fails, puts, get_fails, gets, piece_of};
 
     ghost told = { λ l. honest l.bytes.items l.got };
 
@@ -69,6 +70,8 @@ impl Line for MemLine {
         ensures listed { FailsAsListed (put_fails self.old) (puts self.old) result }
         ensures counted { puts self.new ≡ next_number (puts self.old) }
         ensures list { put_fails self.new ≡ put_fails self.old }
+        ensures piece { IfOk result (λ count. count ≤ piece_of self.old) }
+        ensures same_piece { piece_of self.new ≡ piece_of self.old }
     {
         self.puts = self.puts.saturating_add(1);
         if self.put_fails.contains(&self.puts) {
@@ -89,6 +92,8 @@ impl Line for MemLine {
         ensures listed { FailsAsListed (get_fails self.old) (gets self.old) result }
         ensures counted { gets self.new ≡ next_number (gets self.old) }
         ensures list { get_fails self.new ≡ get_fails self.old }
+        ensures piece { IfOk result (λ count. count ≤ piece_of self.old) }
+        ensures same_piece { piece_of self.new ≡ piece_of self.old }
         ensures memory { IsErrOf result EdgeFault.NoMemory → ⊥ }
     {
         self.gets = self.gets.saturating_add(1);

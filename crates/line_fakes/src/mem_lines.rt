@@ -53,13 +53,14 @@ fn listed_for(
 }
 
 impl MemLines {
-    ghost use Rattle.line_fakes.specs.Seen.{line_fails, makings, put_fails, get_fails};
+    ghost use Rattle.line_fakes.specs.Seen.{line_fails, makings, pieces, piece_of, put_fails, get_fails};
 
     /// No line is made yet.
     pub fn new(alloc: Global, piece: usize, fails: Vec<LineFail>) -> MemLines
         requires { 0 < piece }
         ensures listed { line_fails result ≡ fails.items }
         ensures none { (i j : ℕ) → makings result i j ≡ 0 }
+        ensures pieces { pieces result ≡ piece }
         ensures faultless { (i j : ℕ) → ⟦<MemLines as LineMaker>⟧.faults result i j ≡ 0 }
     {
         MemLines {
@@ -76,6 +77,7 @@ impl MemLines {
         ensures faultless { IfOk result (λ line. ⟦<MemLine as Line>⟧.faults line ≡ 0) }
         ensures puts_listed { IfOk result (λ line. put_fails line ≡ listed_for Way.Put from to (line_fails self.now)) }
         ensures gets_listed { IfOk result (λ line. get_fails line ≡ listed_for Way.Get from to (line_fails self.now)) }
+        ensures piece { IfOk result (λ line. piece_of line ≡ pieces self.now) }
     {
         let puts = listed_for(self.alloc, self.fails.as_slice(), Way::Put, from, to)?;
         let gets = listed_for(self.alloc, self.fails.as_slice(), Way::Get, from, to)?;
@@ -85,7 +87,7 @@ impl MemLines {
 
 impl LineMaker for MemLines {
     ghost use Rattle.std.specs.Prelude.{slice_index};
-    ghost use Rattle.line_fakes.specs.Seen.{pair, line_fails, makings, put_fails, get_fails};
+    ghost use Rattle.line_fakes.specs.Seen.{pair, line_fails, makings, pieces, piece_of, put_fails, get_fails};
 
     type Line = MemLine;
 
@@ -101,6 +103,8 @@ impl LineMaker for MemLines {
         ensures list { line_fails self.new ≡ line_fails self.old }
         ensures puts_listed { IfOk result (λ line. put_fails line ≡ listed_for Way.Put from to (line_fails self.old)) }
         ensures gets_listed { IfOk result (λ line. get_fails line ≡ listed_for Way.Get from to (line_fails self.old)) }
+        ensures piece { IfOk result (λ line. piece_of line ≡ pieces self.old) }
+        ensures same_pieces { pieces self.new ≡ pieces self.old }
     {
         let place = pair(from, to);
         let nth = self.made[place].saturating_add(1);

@@ -8,7 +8,7 @@ use order_trait::Ordering;
 use sequencer_order::SequencerOrder;
 use std::alloc::Global;
 use std::test::*;
-use upd_base::{Answer, Body, Call, Frame, Kind, MemberId, Text};
+use upd_base::{Answer, Body, Call, Entry, Frame, Item, Kind, Log, MemberId, Text};
 
 pub(crate) type One = Member<SequencerOrder>;
 
@@ -195,6 +195,8 @@ fn refusals(rt: HostRuntime) -> Result<(), Fail> {
     assert_eq!(rt; change(alloc, &mut one, four, &mut out)?, Answer::BadKind);
     assert_eq!(rt; crash(alloc, &mut one, &mut out)?, Answer::Done);
     assert_eq!(rt; suspect(alloc, &mut one, 5, &mut out)?, Answer::Crashed);
+    assert_eq!(rt; trust(alloc, &mut one, 2, &mut out)?, Answer::Crashed);
+    assert_eq!(rt; crash(alloc, &mut one, &mut out)?, Answer::Crashed);
     assert_eq!(rt; change(alloc, &mut one, four, &mut out)?, Answer::Crashed);
     assert_eq!(rt; send(alloc, &mut one, &mut out)?, Answer::Crashed);
     assert!(rt; one.crashed());
@@ -242,6 +244,7 @@ fn prepared_and_committed(rt: HostRuntime) -> Result<(), Fail> {
     assert_eq!(rt; (answer, one.accepted()), (Some(Answer::Accepted(0)), 1));
     let (to, frame) = sent.drain_first().ok_or("a frame")?;
     assert_eq!(rt; (to, frame.version), (member(0)?, 0));
+    assert!(rt; matches!(&frame.body, Body::Ask { .. }));
     assert!(rt; sent.drain_first().is_none());
     Ok(())
 }
@@ -286,5 +289,20 @@ fn a_prepared_receipt(rt: HostRuntime) -> Result<(), Fail> {
         return Err("a frame")?;
     };
     assert_eq!(rt; prepared_receipt(alloc, &mut one, frame)?, (true, Some(1)));
+    Ok(())
+}
+
+#[test]
+fn a_log_with_room(rt: HostRuntime) -> Result<(), Fail> {
+    let alloc = rt.alloc();
+    let mut log = Log::new(alloc);
+    let item = Item::Switch {
+        origin: member(0)?,
+        number: 0,
+        kind: Kind::Lamport,
+    };
+    log.reserve(1)?;
+    log.push_ready(Entry { version: 0, item });
+    assert_eq!(rt; log.len(), 1);
     Ok(())
 }

@@ -65,8 +65,8 @@ fn make_call<O: Ordering, R: Wait>(
 }
 
 /// Makes the calls of a thread, one after another. Before its call of number k it passes the gate at turn 2 k, and after that call at
-/// turn 2 k + 1. It leaves the rest of the thread where a member
-/// stays full. It comes back with its pass, and whether a request for memory was refused.
+/// turn 2 k + 1. It leaves the rest of the thread where a member stays full. It comes back with its pass, and whether a request for
+/// memory was refused.
 pub(crate) fn make_calls<O: Ordering, G: Gate, R: Wait>(
     rt: &R,
     alloc: Global,

@@ -90,7 +90,11 @@ fn the_line_of_a_sender_fails(rt: HostRuntime) -> Result<(), Fail> {
         let ran = run_with(&rt, alloc, fail(1, 0, way, 1)?)?;
         assert_eq!(rt; (ran.status, ran.events, ran.delivered), (6, 6, [1, 1, 1]));
         assert!(rt; ran.text.as_str().contains("  0 msg 2.0 b\n"));
-        assert!(rt; ran.text.as_str().ends_with("end: line 1 0 down\n"));
+        assert!(rt;
+            ran.text
+                .as_str()
+                .ends_with("undelivered msg 1.0 a\nend: line 1 0 down\n")
+        );
     }
     Ok(())
 }
@@ -153,8 +157,11 @@ fn each_byte_of_a_line_lies(rt: HostRuntime) -> Result<(), Fail> {
         let mut maker = LieLines::new(alloc, member(1)?, member(0)?, at as u64);
         let ran = run(&rt, alloc, &mut maker)?;
         let got = put ^ 1;
-        let end = format!(in alloc; "end: line 1 0 lied at {at}: put {put:02x}, got {got:02x}\n")?;
+        let end = format!(in alloc;
+            "undelivered msg 1.0 a\nend: line 1 0 lied at {at}: put {put:02x}, got {got:02x}\n"
+        )?;
         assert_eq!(rt; (ran.status, ran.events, ran.delivered), (8, 6, [1, 1, 1]));
+        assert!(rt; ran.text.as_str().contains("  0 msg 2.0 b\n"));
         assert!(rt; ran.text.as_str().ends_with(end.as_str()));
     }
     let mut maker = LieLines::new(alloc, member(1)?, member(0)?, 12);

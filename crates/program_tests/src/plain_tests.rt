@@ -123,12 +123,13 @@ fn scenarios_by_a_seed(rt: HostRuntime) -> Result<(), Fail> {
 fn journals(rt: HostRuntime) -> Result<(), Fail> {
     let alloc = rt.alloc();
     let words = words_of(alloc, &["rehearse"])?;
-    let mut source = SureSource::new(Vec::from_slice(alloc, ROW.as_bytes())?);
+    let mut source = SureSource::new(Vec::from_slice(alloc, TWO_SENDS.as_bytes())?);
     let mut sink = MemSink::new(alloc, 5, vec![in alloc; 1u64]?);
     let outcome = plain(alloc, words.as_slice(), &mut source, &mut sink);
     assert!(rt; matches!(&outcome.status, Status::SinkFailed));
+    assert!(rt; sink.bytes().is_empty());
     let journal = outcome.journal.ok_or("no journal")?;
-    assert_eq!(rt; journal.len(), 5);
+    assert_eq!(rt; journal.len(), 10);
     assert_eq!(rt; journal.plan().members(), 3);
     let mut sink = SureSink::new(alloc);
     let mut source = SureSource::new(Vec::from_slice(alloc, ROW.as_bytes())?);
@@ -147,13 +148,13 @@ fn fails_at_each_place(alloc: Global, scenario: &[u8], piece: usize) -> Result<(
     if status != 0 {
         return Err("a run that is not settled")?;
     }
-    for nth in 1..=(scenario.len() / piece + 1) as u64 {
+    for nth in 1..=(scenario.len().div_ceil(piece) + 1) as u64 {
         let (status, text) = done_in_pieces(alloc, &words, scenario, piece, &[nth], &[])?;
         if status != 3 || text.as_slice() != b"source failed\n".as_slice() {
             return Err("another refusal")?;
         }
     }
-    for nth in 0..whole.len() / piece {
+    for nth in 0..whole.len().div_ceil(piece) {
         let fails = [nth as u64 + 1];
         let (status, text) = done_in_pieces(alloc, &words, scenario, piece, &[], &fails)?;
         let Some(front) = whole.as_slice().get(..nth * piece) else {

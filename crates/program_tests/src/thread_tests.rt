@@ -13,15 +13,37 @@ use upd_fakes::{SureSink, SureSource};
 use upd_lines::LineMaker;
 use worker_gates::{Gate, OpenGate, TwoMeet};
 
-/// Runs a scenario: the exit status, how many events the run has, and what the sink got.
+/// The log of each member where the first message is ordered first.
+const ONE_ORDER: &str = "version 0, sequencer 0, up, 2 delivered
+  0 msg 1.0 a
+  0 msg 2.0 b
+";
+
+/// The log of each member where it is ordered second.
+const OTHER_ORDER: &str = "version 0, sequencer 0, up, 2 delivered
+  0 msg 2.0 b
+  0 msg 1.0 a
+";
+
+/// What a run came to: its exit status, how many events it has, how many lines came back, and what the sink got.
+#[derive(Drop)]
+struct Ran {
+    status: u8,
+    events: u64,
+    lines: usize,
+    text: String,
+}
+
+/// Runs a scenario with threads.
 fn run<M: LineMaker, G: Gate, R: Threads + Wait + Sync>(
     rt: &R,
     alloc: Global,
+    over: &str,
     scenario: &[u8],
     maker: &mut M,
     gate: &G,
-) -> Result<(u8, u64, String), Fail> {
-    let words = words_of(alloc, &["run", "loopback", "short"])?;
+) -> Result<Ran, Fail> {
+    let words = words_of(alloc, &["run", over])?;
     let mut source = SureSource::new(Vec::from_slice(alloc, scenario)?);
     let mut sink = SureSink::new(alloc);
     let outcome = live(
@@ -34,8 +56,27 @@ fn run<M: LineMaker, G: Gate, R: Threads + Wait + Sync>(
         gate,
     );
     let journal = outcome.journal.ok_or("no journal")?;
-    let text = String::from_utf8_lossy(alloc, sink.bytes())?;
-    Ok((outcome.status.code(), journal.len(), text))
+    Ok(Ran {
+        status: outcome.status.code(),
+        events: journal.len(),
+        lines: outcome.lines.iter().filter(|line| line.is_some()).count(),
+        text: String::from_utf8_lossy(alloc, sink.bytes())?,
+    })
+}
+
+/// The report of the two sends where each member has this log.
+fn report(alloc: Global, log: &str) -> Result<String, Fail> {
+    let all =
+        "run: 3 members, 10 events, 2 of 2 calls\nanswers: 2 accepted, 0 done, 0 full, 0 crashed\n";
+    Ok(format!(in alloc; "{all}member 0: {log}member 1: {log}member 2: {log}end: settled\n")?)
+}
+
+/// Both messages stand in every log, in one order; all nine lines came back.
+fn both_are_ordered(alloc: Global, ran: &Ran) -> Result<bool, Fail> {
+    let text = ran.text.as_str();
+    let ordered = text == report(alloc, ONE_ORDER)?.as_str()
+        || text == report(alloc, OTHER_ORDER)?.as_str();
+    Ok(ordered && (ran.status, ran.events, ran.lines) == (0, 10, 9))
 }
 
 #[test]
@@ -43,9 +84,16 @@ fn two_workers_meet(rt: HostRuntime) -> Result<(), Fail> {
     let alloc = rt.alloc();
     let gate = TwoMeet::new();
     let mut maker = SureLines::new(alloc);
-    let (status, events, _) = run(&rt, alloc, TWO_SENDS.as_bytes(), &mut maker, &gate)?;
+    let ran = run(
+        &rt,
+        alloc,
+        "memory",
+        TWO_SENDS.as_bytes(),
+        &mut maker,
+        &gate,
+    )?;
     assert!(rt; gate.met());
-    assert_eq!(rt; (status, events), (0, 10));
+    assert!(rt; both_are_ordered(alloc, &ran)?);
     Ok(())
 }
 
@@ -53,8 +101,15 @@ fn two_workers_meet(rt: HostRuntime) -> Result<(), Fail> {
 fn frames_go_over_sockets(rt: HostRuntime) -> Result<(), Fail> {
     let alloc = rt.alloc();
     let mut maker = LoopLines::new(rt);
-    let (status, events, _) = run(&rt, alloc, TWO_SENDS.as_bytes(), &mut maker, &OpenGate)?;
-    assert_eq!(rt; (status, events), (0, 10));
+    let ran = run(
+        &rt,
+        alloc,
+        "loopback",
+        TWO_SENDS.as_bytes(),
+        &mut maker,
+        &OpenGate,
+    )?;
+    assert!(rt; both_are_ordered(alloc, &ran)?);
     Ok(())
 }
 
@@ -63,10 +118,17 @@ fn a_generated_run_goes_over_sockets(rt: HostRuntime) -> Result<(), Fail> {
     let alloc = rt.alloc();
     let scenario = generated(alloc, "7", "200")?;
     let mut maker = LoopLines::new(rt);
-    let (status, _, text) = run(&rt, alloc, scenario.as_slice(), &mut maker, &OpenGate)?;
-    assert_eq!(rt; status, 0);
-    assert!(rt; text.as_str().contains("200 of 200 calls\n"));
-    assert!(rt; text.as_str().ends_with("end: settled\n"));
+    let ran = run(
+        &rt,
+        alloc,
+        "loopback",
+        scenario.as_slice(),
+        &mut maker,
+        &OpenGate,
+    )?;
+    assert_eq!(rt; (ran.status, ran.lines), (0, 25));
+    assert!(rt; ran.text.as_str().contains("200 of 200 calls\n"));
+    assert!(rt; ran.text.as_str().ends_with("end: settled\n"));
     Ok(())
 }
 
@@ -78,9 +140,16 @@ fn all_workers_are_joined(rt: HostRuntime) -> Result<(), Fail> {
     for _ in 0..20 {
         let gate = CountingGate::new();
         let mut maker = SureLines::new(alloc);
-        let (status, events, _) = run(&rt, alloc, TWO_SENDS.as_bytes(), &mut maker, &gate)?;
+        let ran = run(
+            &rt,
+            alloc,
+            "memory",
+            TWO_SENDS.as_bytes(),
+            &mut maker,
+            &gate,
+        )?;
         assert_eq!(rt; gate.passes(), 6);
-        assert_eq!(rt; (status, events), (0, 10));
+        assert!(rt; both_are_ordered(alloc, &ran)?);
     }
     Ok(())
 }

@@ -5,8 +5,8 @@ use upd_base::MemberId;
 /// How the program ended.
 #[derive(Drop)]
 pub enum Status {
-    /// A rehearsal is settled, a journal that was read is a run, or a scenario was generated, and its text was written
-    /// whole.
+    /// A rehearsal or a run with threads is settled, a journal that was read is a run, or a scenario was generated, and its text
+    /// was written whole.
     Done,
     /// The words are no command.
     Words,

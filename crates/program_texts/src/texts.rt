@@ -60,6 +60,7 @@ fn fault_text(alloc: Global, fault: &ScenarioFault) -> Result<Vec<u8>, AllocErro
     }
 }
 
+/// The text that tells a refusal; of a status that is none, no text.
 #[tactic(auto, unfolding(crate::specs::Texts::refusal_text))]
 pub fn refusal_text(alloc: Global, status: &Status) -> Result<Vec<u8>, AllocError>
     ensures { IfOk result (λ text. text.items ≡ refusal_text status.now) }

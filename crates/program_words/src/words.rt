@@ -9,7 +9,9 @@ ghost use Rattle.program_words.specs.Words.{calls_of, check_of, command, form_na
 /// How a run is reported.
 #[derive(Clone, Copy, Debug, PartialEq, Eq)]
 pub enum Form {
+    /// With each member's log, and the items that no log has.
     Long,
+    /// Without these.
     Short,
     /// The journal's own text, in place of a report.
     Journal,
@@ -33,7 +35,9 @@ pub struct Generate {
 /// The lines that a run with threads goes over.
 #[derive(Clone, Copy, Debug, PartialEq, Eq)]
 pub enum LineKind {
+    /// Lines in memory.
     Memory,
+    /// TCP on 127.0.0.1, both ends in this process.
     Loopback,
 }
 
@@ -44,7 +48,7 @@ pub struct Run {
     pub form: Form,
 }
 
-/// What the program is asked for.
+/// What the program is asked for, but for `run`, which has a reading of its own.
 #[derive(Clone, Copy, Debug, PartialEq, Eq)]
 pub enum Command {
     Rehearse(Rehearse),
@@ -192,7 +196,7 @@ fn named(first: &str, rest: &[String]) -> Option<Command>
     None
 }
 
-/// What the words ask for.
+/// What the words ask for: None where they are none of these commands, `run` among those.
 pub fn command_of(words: &[String]) -> Option<Command>
     ensures is { result ≡ command (map string_bytes words.now) }
     ensures few { (g : Generate) → result ≡ Some (commands.Generate g) → g.calls ≤ 1000 }

@@ -137,7 +137,7 @@ module _ {L : Type 0} (G : Ghosts L) where
     spent_at : (status : Status) → Wrote status → status ≡ statuses.TurnsSpent → CameTo ends.Spent plan past
     spent_at status w e = let at : Wrote statuses.TurnsSpent = subst Wrote e w in at.0
 
-    down_at : (status : Status) → Wrote status → (from to : ℕ) → status ≡ statuses.LineDown from to → IsDownEnd G the_rules plan past made lines from to
+    down_at : (status : Status) → Wrote status → (from to : ℕ) → status ≡ statuses.LineDown from to → IsDownEnd G the_rules plan [] past made lines from to
     down_at status w from to e = let at : Wrote (statuses.LineDown from to) = subst Wrote e w in at.0
 
     lied_at : (status : Status) → Wrote status → (from to at put got : ℕ) → status ≡ statuses.LineLied from to at put got

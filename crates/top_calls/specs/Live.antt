@@ -100,8 +100,8 @@ pub record IsRunOver {L : Type 0} (G : Ghosts L) (before now : ℕ → ℕ → �
   -- where the turns are spent, the run is as long as the bound and not settled, and a suspicion was taken
   pub spent : status ≡ statuses.TurnsSpent → CameTo ends.Spent plan past
   pub suspected : status ≡ statuses.TurnsSpent → IsTrusting plan past → ⊥
-  -- a line that is told as down or as lying has that cause, and holds the run up
-  pub down : (from to : ℕ) → status ≡ statuses.LineDown from to → IsDownEnd G the_rules plan past made lines from to
+  -- a line that is told as down or as lying has that cause, and holds the run up; a lie comes first
+  pub down : (from to : ℕ) → status ≡ statuses.LineDown from to → IsDownEnd G the_rules plan [] past made lines from to
   pub lied : (from to at put got : ℕ) → status ≡ statuses.LineLied from to at put got
       → IsLyingEnd G the_rules plan [] past made lines from to (record { at = at; put = put; got = got })
 
@@ -109,11 +109,11 @@ pub record IsRunOver {L : Type 0} (G : Ghosts L) (before now : ℕ → ℕ → �
 abbrev pub WroteOver : {L : Type 0} → Ghosts L → Status → Form → Planned → Events → List (Option L) → List (Option L) → Option (List ℕ) → Option (List ℕ) → Type 0
 WroteOver G status form plan past made lines old new = WroteRunOf (λ end. EndsRun G the_rules plan [] past made lines (told_end end)) status form plan past old new
 
--- A run of a plan without suspicions, where no count of faults rose: it is settled where the lines are faithful, and else a line
--- may have lied.
 abbrev pub IsLied : Status → Type 0
 IsLied status = (from to at put got : ℕ) × (status ≡ statuses.LineLied from to at put got)
 
+-- A run of a plan without suspicions, where no count of faults rose: it is settled where the lines are faithful, and else a line
+-- may have lied.
 abbrev pub IsComplete : {L : Type 0} → Ghosts L → Status → ℕ → List (Option L) → Type 0
 IsComplete G status n lines = (AreFaithful G n lines → OrMemory status statuses.Done) × (OrMemory status statuses.Done ⊎ IsLied status)
 

@@ -1,13 +1,14 @@
 //! `check`: a journal's text, read and reported.
-ghost use Rattle.std.specs.Prelude.{◌≡◌, ◌≢◌, ◌⊎◌, IfNone, IfSome, List, None, OnSome, Some, reverse};
+ghost use Rattle.std.specs.Prelude.{◌≡◌, ◌≢◌, ◌⊎◌, ◌+◌, [], IfNone, IfSome, List, None, OnSome, Some, reverse};
 ghost use Rattle.std.specs.Io.KnownBytes.{IsAtEnd, Keeps};
 ghost use Rattle.upd_base.specs.Edge.{Rose};
-ghost use Rattle.upd_io.specs.Whole.{AppendsPrefix};
+ghost use Rattle.upd_io.specs.Whole.{AppendsPrefix, TakesAtMost};
 ghost use Rattle.run_journal.specs.Journal.{events_of, past_of, plan_of};
 ghost use Rattle.upd_base.specs.Plan.{Planned};
 ghost use Rattle.upd_base.specs.declared.event.Event.{Event};
 ghost use Rattle.group_run.specs.Run.{IsGroupRun};
 ghost use Rattle.journal_file.specs.Reading.{IsJournalText, ReadFault};
+ghost use Rattle.journal_file.specs.declared.limits.TheConstants.{MAX_TEXT};
 ghost use Rattle.journal_file.specs.declared.fault.JournalFault.{JournalFault};
 ghost use Rattle.journal_file.specs.declared.fault.JournalFault.TheVariants as journal_faults;
 ghost use Rattle.top_calls.specs.Causes.{IsRefusal, OrMemory, Told};
@@ -36,6 +37,8 @@ pub(crate) fn check_journal<S: Source, K: Sink>(
     sink: &mut K,
 ) -> Outcome<NoLine>
     ensures kind { IsOfCheck result.status }
+    ensures no_lines { result.lines.items ≡ [] }
+    ensures taken { TakesAtMost (S.left source.old) (S.left source.new) (MAX_TEXT + 1) }
     ensures text { IfSome result.journal (λ j. IfSome (S.left source.old) (λ all. IsJournalText all (plan_of j) (events_of j))) }
     ensures to_end { OnSome result.journal (IsAtEnd (S.left source.new)) }
     ensures laws { IfSome result.journal (λ j. KeepsLaws (plan_of j) (past_of j)) }
@@ -63,6 +66,7 @@ pub(crate) fn check_journal<S: Source, K: Sink>(
 /// Reports a journal that was read, and gives it back.
 fn report_read<K: Sink>(alloc: Global, journal: Journal<Module>, sink: &mut K) -> Outcome<NoLine>
     ensures journal { result.journal ≡ Some journal }
+    ensures no_lines { result.lines.items ≡ [] }
     ensures laws { KeepsLaws (plan_of journal) (past_of journal) }
     ensures status { IsWritten result.status }
     ensures wrote { WroteCheck result.status (plan_of journal) (past_of journal) (K.held sink.old) (K.held sink.new) }

@@ -1,16 +1,19 @@
 //! The commands that need no lines.
-ghost use Rattle.std.specs.Prelude.{ℕ, ◌≡◌, ◌≢◌, ◌⊎◌, List, reverse, Some, None, Ok, Err, IfSome, IsSome, IfNone, OnSome, map, string_bytes};
+ghost use Rattle.std.specs.Prelude.{ℕ, ◌≡◌, ◌≢◌, ◌⊎◌, ◌+◌, List, [], reverse, Some, None, Ok, Err, IfSome, IsSome, IfNone, OnSome, map, string_bytes};
 ghost use Rattle.std.specs.Io.KnownBytes.{IsAtEnd, Keeps};
 ghost use Rattle.upd_base.specs.Edge.{Rose};
 ghost use Rattle.upd_base.specs.Plan.{Planned};
 ghost use Rattle.upd_base.specs.declared.event.Event.{Event};
 ghost use Rattle.group_run.specs.Run.{IsGroupRun};
-ghost use Rattle.upd_io.specs.Whole.{AppendsLess, AppendsPrefix};
+ghost use Rattle.upd_io.specs.Whole.{AppendsLess, AppendsPrefix, TakesAtMost};
 ghost use Rattle.scenario.specs.Reading.{reading};
+ghost use Rattle.scenario.specs.declared.root.TheConstants.{MAX_TEXT as MAX_SCENARIO};
 ghost use Rattle.scenario.specs.declared.fault.ScenarioFault.{ScenarioFault};
+ghost use Rattle.scenario.specs.declared.fault.ScenarioFault.TheVariants as scenario_faults;
 ghost use Rattle.scenario_gen.specs.Spelling.{spelt};
 ghost use Rattle.run_journal.specs.Journal.{events_of, past_of, plan_of};
 ghost use Rattle.journal_file.specs.Reading.{HasWrongEvent, IsJournalText, ReadFault};
+ghost use Rattle.journal_file.specs.declared.limits.TheConstants.{MAX_TEXT as MAX_JOURNAL};
 ghost use Rattle.journal_file.specs.declared.fault.JournalFault.{JournalFault};
 ghost use Rattle.journal_file.specs.declared.fault.JournalFault.TheVariants as journal_faults;
 ghost use Rattle.planned_calls.specs.Calls.{HasNo, is_suspect};
@@ -52,9 +55,12 @@ pub fn plain<S: Source, K: Sink>(
     // SinkFailed: only where the sink's faults rose.
     ensures sink_failed { result.status ≡ Status.SinkFailed → Rose (K.faults sink.old) (K.faults sink.new) }
     // Scenario: exactly where the bytes read as that fault.
-    ensures scenario { (f : ScenarioFault) → result.status ≡ Status.Scenario f → IfSome (S.left source.old) (λ all. reading all ≡ Err f) }
+    ensures scenario { (f : ScenarioFault) → result.status ≡ Status.Scenario f → (f ≢ scenario_faults.NoMemory) × IfSome (S.left source.old) (λ all. reading all ≡ Err f) }
     ensures scenario_only { (asked : Rehearse) → command (map string_bytes words.now) ≡ Some (commands.Rehearse asked) → IfSome (S.left source.old) (λ all. (f : ScenarioFault) → reading all ≡ Err f
         → OrMemory result.status (Status.Scenario f) ⊎ (result.status ≡ Status.SourceFailed)) }
+    // No more is taken from the source than the limit of its text and a byte.
+    ensures taken { (asked : Rehearse) → command (map string_bytes words.now) ≡ Some (commands.Rehearse asked) → TakesAtMost (S.left source.old) (S.left source.new) (MAX_SCENARIO + 1) }
+    ensures checked_taken { command (map string_bytes words.now) ≡ Some commands.Check → TakesAtMost (S.left source.old) (S.left source.new) (MAX_JOURNAL + 1) }
     // A run comes to its end, and its text is written.
     ensures run_only { (asked : Rehearse) → command (map string_bytes words.now) ≡ Some (commands.Rehearse asked) → IfSome (S.left source.old) (λ all. (p : Planned) → reading all ≡ Ok p
         → IsWriting result.status ⊎ (result.status ≡ Status.SourceFailed)) }
@@ -89,6 +95,7 @@ pub fn plain<S: Source, K: Sink>(
     ensures generated_alone { (asked : Generate) → command (map string_bytes words.now) ≡ Some (commands.Generate asked) → (result.journal ≡ None) × (source.new ≡ source.old) }
     ensures refusal { IsRefusal result.status → Told (K.faults sink.old) (K.faults sink.new) (K.held sink.old) (K.held sink.new) (refusal_text result.status) }
     ensures refused_journal { IsRefusal result.status → result.journal ≡ None }
+    ensures no_lines { result.lines.items ≡ [] }
     // At want of memory without a journal it got nothing, a prefix of the text of a refusal that has its cause, or of the
     // scenario that the words ask for.
     ensures memory { result.status ≡ Status.NoMemory → IfNone result.journal (Keeps (K.held sink.old) (K.held sink.new)

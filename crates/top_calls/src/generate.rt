@@ -1,5 +1,5 @@
 //! `gen`: a scenario by a seed.
-ghost use Rattle.std.specs.Prelude.{◌≡◌, ◌≤◌, None};
+ghost use Rattle.std.specs.Prelude.{◌≡◌, ◌≤◌, None, []};
 ghost use Rattle.upd_base.specs.Edge.{Rose};
 ghost use Rattle.scenario_gen.specs.Spelling.{spelt};
 ghost use Rattle.top_calls.specs.Checked.{IsWritten, WroteText};
@@ -22,6 +22,7 @@ pub(crate) fn write_scenario<K: Sink>(
 ) -> Outcome<NoLine>
     requires { asked.calls ≤ 1000 }
     ensures journal { result.journal ≡ None }
+    ensures no_lines { result.lines.items ≡ [] }
     ensures status { IsWritten result.status }
     ensures wrote { WroteText result.status (spelt asked.seed asked.calls) (K.held sink.old) (K.held sink.new) }
     ensures cause { result.status ≡ Status.SinkFailed → Rose (K.faults sink.old) (K.faults sink.new) }

@@ -1,7 +1,9 @@
 //! A journal that is read of a source.
-ghost use Rattle.std.specs.Prelude.{◌≡◌, IfErr, IfOk, IfSome, OnOk};
+ghost use Rattle.std.specs.Prelude.{◌≡◌, ◌+◌, IfErr, IfOk, IfSome, OnOk};
 ghost use Rattle.std.specs.Io.KnownBytes.{IsAtEnd};
+ghost use Rattle.upd_io.specs.Whole.{TakesAtMost};
 ghost use Rattle.run_journal.specs.Journal.{events_of, plan_of};
+ghost use Rattle.journal_file.specs.declared.limits.TheConstants.{MAX_TEXT};
 ghost use Rattle.journal_file.specs.Reading.{IsJournalText};
 ghost use Rattle.top_calls.specs.Checked.{JournalCause, journal_refused};
 
@@ -18,6 +20,7 @@ pub(crate) fn journal_from<S: Source>(
     alloc: Global,
     source: &mut S,
 ) -> Result<Journal<Module>, Status>
+    ensures taken { TakesAtMost (S.left source.old) (S.left source.new) (MAX_TEXT + 1) }
     ensures text { IfOk result (λ j. IfSome (S.left source.old) (λ all. IsJournalText all (plan_of j) (events_of j))) }
     ensures to_end { OnOk result (IsAtEnd (S.left source.new)) }
     ensures cause { IfErr result (λ status. JournalCause status (S.faults source.old) (S.faults source.new) (S.left source.old)) }

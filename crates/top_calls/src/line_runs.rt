@@ -1,11 +1,13 @@
 //! `run`: a scenario that is read and run with threads over lines.
-ghost use Rattle.std.specs.Prelude.{ℕ, ◌≡◌, ◌⊎◌, ◌*◌, All, Some, None, Ok, Err, [], IfSome, IsSome, IfNone, OnSome, length, map, string_bytes};
+ghost use Rattle.std.specs.Prelude.{ℕ, ◌≡◌, ◌≢◌, ◌⊎◌, ◌+◌, ◌*◌, All, Some, None, Ok, Err, [], IfSome, IsSome, IfNone, OnSome, length, map, string_bytes};
 ghost use Rattle.std.specs.Io.KnownBytes.{Keeps, IsAtEnd};
 ghost use Rattle.upd_base.specs.Edge.{Rose};
 ghost use Rattle.upd_base.specs.Plan.{Planned};
-ghost use Rattle.upd_io.specs.Whole.{AppendsPrefix};
+ghost use Rattle.upd_io.specs.Whole.{AppendsPrefix, TakesAtMost};
 ghost use Rattle.scenario.specs.Reading.{reading};
+ghost use Rattle.scenario.specs.declared.root.TheConstants.{MAX_TEXT};
 ghost use Rattle.scenario.specs.declared.fault.ScenarioFault.{ScenarioFault};
+ghost use Rattle.scenario.specs.declared.fault.ScenarioFault.TheVariants as scenario_faults;
 ghost use Rattle.run_journal.specs.Journal.{plan_of, past_of};
 ghost use Rattle.line_rules.specs.Lines.{IsEvenLine};
 ghost use Rattle.planned_calls.specs.Calls.{HasNo, is_suspect};
@@ -58,12 +60,15 @@ pub fn live<S: Source, K: Sink, M: LineMaker, G: Gate, R: Threads + Wait + Sync>
     // SinkFailed: only where the sink's faults rose.
     ensures sink_failed { result.status ≡ Status.SinkFailed → Rose (K.faults sink.old) (K.faults sink.new) }
     // Scenario: exactly where the bytes read as that fault.
-    ensures scenario { (f : ScenarioFault) → result.status ≡ Status.Scenario f → IfSome (S.left source.old) (λ all. reading all ≡ Err f) }
+    ensures scenario { (f : ScenarioFault) → result.status ≡ Status.Scenario f → (f ≢ scenario_faults.NoMemory) × IfSome (S.left source.old) (λ all. reading all ≡ Err f) }
     ensures scenario_only { (asked : Run) → run_of (map string_bytes words.now) ≡ Some asked → IfSome (S.left source.old) (λ all. (f : ScenarioFault) → reading all ≡ Err f
         → OrMemory result.status (Status.Scenario f) ⊎ (result.status ≡ Status.SourceFailed)) }
+    // No more is taken from the source than its limit and a byte.
+    ensures taken { (asked : Run) → run_of (map string_bytes words.now) ≡ Some asked → TakesAtMost (S.left source.old) (S.left source.new) (MAX_TEXT + 1) }
     // A run comes to an end, and its text is written.
     ensures run_only { (asked : Run) → run_of (map string_bytes words.now) ≡ Some asked → IfSome (S.left source.old) (λ all. (p : Planned) → reading all ≡ Ok p
         → IsRunStatus result.status ⊎ (result.status ≡ Status.SourceFailed)) }
+    ensures live_only { (asked : Run) → run_of (map string_bytes words.now) ≡ Some asked → IsOfLive result.status }
     // Where the plan has no suspicion and no count of faults rose, the run is settled, or a line that is not faithful lied.
     ensures complete { (asked : Run) → run_of (map string_bytes words.now) ≡ Some asked → IfSome (S.left source.old) (λ all. (p : Planned) → reading all ≡ Ok p → HasNo is_suspect p
         → (Rose (S.faults source.old) (S.faults source.new) → ⊥) → (Rose (K.faults sink.old) (K.faults sink.new) → ⊥)
@@ -99,9 +104,10 @@ fn run_scenario<S: Source, K: Sink, M: LineMaker, G: Gate, R: Threads + Wait + S
     gate: &G,
 ) -> Outcome<M::Line>
     ensures kind { IsOfLive result.status }
+    ensures taken { TakesAtMost (S.left source.old) (S.left source.new) (MAX_TEXT + 1) }
     ensures source_failed { result.status ≡ Status.SourceFailed → Rose (S.faults source.old) (S.faults source.new) }
     ensures sink_failed { result.status ≡ Status.SinkFailed → Rose (K.faults sink.old) (K.faults sink.new) }
-    ensures scenario { (f : ScenarioFault) → result.status ≡ Status.Scenario f → IfSome (S.left source.old) (λ all. reading all ≡ Err f) }
+    ensures scenario { (f : ScenarioFault) → result.status ≡ Status.Scenario f → (f ≢ scenario_faults.NoMemory) × IfSome (S.left source.old) (λ all. reading all ≡ Err f) }
     ensures scenario_only { IfSome (S.left source.old) (λ all. (f : ScenarioFault) → reading all ≡ Err f
         → OrMemory result.status (Status.Scenario f) ⊎ (result.status ≡ Status.SourceFailed)) }
     ensures run_only { IfSome (S.left source.old) (λ all. (p : Planned) → reading all ≡ Ok p → IsRunStatus result.status ⊎ (result.status ≡ Status.SourceFailed)) }

@@ -1,5 +1,5 @@
 //! What the program does where there is no journal.
-ghost use Rattle.std.specs.Prelude.{◌≡◌, None};
+ghost use Rattle.std.specs.Prelude.{◌≡◌, None, []};
 ghost use Rattle.upd_io.specs.Whole.{AppendsPrefix};
 ghost use Rattle.top_calls.specs.Causes.{IsRefusal, OrMemory, Told};
 ghost use Rattle.program_texts.specs.Texts.{refusal_text};
@@ -14,6 +14,7 @@ use upd_io::write_all;
 pub(crate) fn without_journal<L: Drop>(alloc: Global, status: Status) -> Outcome<L>
     ensures status { result.status ≡ status }
     ensures journal { result.journal ≡ None }
+    ensures no_lines { result.lines.items ≡ [] }
 {
     Outcome {
         status,
@@ -26,6 +27,7 @@ pub(crate) fn without_journal<L: Drop>(alloc: Global, status: Status) -> Outcome
 pub(crate) fn refuse<K: Sink, L: Drop>(alloc: Global, status: Status, sink: &mut K) -> Outcome<L>
     requires { IsRefusal status }
     ensures journal { result.journal ≡ None }
+    ensures no_lines { result.lines.items ≡ [] }
     ensures status { OrMemory result.status status }
     ensures told { result.status ≡ status → Told (K.faults sink.old) (K.faults sink.new) (K.held sink.old) (K.held sink.new) (refusal_text status) }
     ensures front { AppendsPrefix (K.held sink.old) (K.held sink.new) (refusal_text status) }

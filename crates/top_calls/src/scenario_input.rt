@@ -1,5 +1,7 @@
 //! A plan that is read of a source.
-ghost use Rattle.std.specs.Prelude.{◌≡◌};
+ghost use Rattle.std.specs.Prelude.{◌≡◌, ◌+◌};
+ghost use Rattle.upd_io.specs.Whole.{TakesAtMost};
+ghost use Rattle.scenario.specs.declared.root.TheConstants.{MAX_TEXT};
 ghost use Rattle.top_calls.specs.Causes.{PlanFrom, refused};
 
 use program_texts::Status;
@@ -10,7 +12,8 @@ use upd_io::read_all;
 
 /// Reads a plan from the source.
 pub(crate) fn plan_from<S: Source>(alloc: Global, source: &mut S) -> Result<Plan, Status>
-    ensures { PlanFrom result (S.faults source.old) (S.faults source.new) (S.left source.old) (S.left source.new) }
+    ensures taken { TakesAtMost (S.left source.old) (S.left source.new) (MAX_TEXT + 1) }
+    ensures from { PlanFrom result (S.faults source.old) (S.faults source.new) (S.left source.old) (S.left source.new) }
 {
     let bytes = match read_all(alloc, source, MAX_TEXT) {
         Ok(bytes) => bytes,

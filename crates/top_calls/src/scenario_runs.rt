@@ -1,11 +1,13 @@
 //! `rehearse`: a scenario that is read and run on one thread.
-ghost use Rattle.std.specs.Prelude.{◌≡◌, ◌⊎◌, Some, None, Ok, Err, [], IfSome, IsSome, IfNone, OnSome};
+ghost use Rattle.std.specs.Prelude.{◌≡◌, ◌≢◌, ◌⊎◌, ◌+◌, Some, None, Ok, Err, [], IfSome, IsSome, IfNone, OnSome};
 ghost use Rattle.std.specs.Io.KnownBytes.{Keeps, IsAtEnd};
 ghost use Rattle.upd_base.specs.Edge.{Rose};
 ghost use Rattle.upd_base.specs.Plan.{Planned};
-ghost use Rattle.upd_io.specs.Whole.{AppendsPrefix};
+ghost use Rattle.upd_io.specs.Whole.{AppendsPrefix, TakesAtMost};
 ghost use Rattle.scenario.specs.Reading.{reading};
+ghost use Rattle.scenario.specs.declared.root.TheConstants.{MAX_TEXT};
 ghost use Rattle.scenario.specs.declared.fault.ScenarioFault.{ScenarioFault};
+ghost use Rattle.scenario.specs.declared.fault.ScenarioFault.TheVariants as scenario_faults;
 ghost use Rattle.run_journal.specs.Journal.{plan_of, past_of};
 ghost use Rattle.planned_calls.specs.Calls.{HasNo, is_suspect};
 ghost use Rattle.top_calls.specs.Rehearsal.{IsRehearsalOf};
@@ -34,9 +36,11 @@ pub(crate) fn rehearse_scenario<S: Source, K: Sink>(
     sink: &mut K,
 ) -> Outcome<NoLine>
     ensures kind { IsOfScenario result.status }
+    ensures no_lines { result.lines.items ≡ [] }
+    ensures taken { TakesAtMost (S.left source.old) (S.left source.new) (MAX_TEXT + 1) }
     ensures source_failed { result.status ≡ Status.SourceFailed → Rose (S.faults source.old) (S.faults source.new) }
     ensures sink_failed { result.status ≡ Status.SinkFailed → Rose (K.faults sink.old) (K.faults sink.new) }
-    ensures scenario { (f : ScenarioFault) → result.status ≡ Status.Scenario f → IfSome (S.left source.old) (λ all. reading all ≡ Err f) }
+    ensures scenario { (f : ScenarioFault) → result.status ≡ Status.Scenario f → (f ≢ scenario_faults.NoMemory) × IfSome (S.left source.old) (λ all. reading all ≡ Err f) }
     ensures scenario_only { IfSome (S.left source.old) (λ all. (f : ScenarioFault) → reading all ≡ Err f
         → OrMemory result.status (Status.Scenario f) ⊎ (result.status ≡ Status.SourceFailed)) }
     ensures run_only { IfSome (S.left source.old) (λ all. (p : Planned) → reading all ≡ Ok p
@@ -62,6 +66,7 @@ pub(crate) fn rehearse_scenario<S: Source, K: Sink>(
 
 /// Runs a plan and writes its text.
 fn run<K: Sink>(alloc: Global, asked: Rehearse, plan: Plan, sink: &mut K) -> Outcome<NoLine>
+    ensures no_lines { result.lines.items ≡ [] }
     ensures status { IsWriting result.status }
     ensures there { (result.status ≡ Status.NoMemory) ⊎ IsSome result.journal }
     ensures plan { IfSome result.journal (λ j. plan_of j ≡ plan) }
@@ -85,6 +90,7 @@ fn run_through<K: Sink>(
     sink: &mut K,
 ) -> Outcome<NoLine>
     requires { past_of journal ≡ [] }
+    ensures no_lines { result.lines.items ≡ [] }
     ensures there { IsSome result.journal }
     ensures status { IsWriting result.status }
     ensures plan { IfSome result.journal (λ j. plan_of j ≡ plan_of journal) }
@@ -106,6 +112,7 @@ fn finish<K: Sink>(
     sink: &mut K,
 ) -> Outcome<NoLine>
     requires { CameBy rehearsed.end (plan_of rehearsed.journal) (past_of rehearsed.journal) }
+    ensures no_lines { result.lines.items ≡ [] }
     ensures journal { result.journal ≡ Some rehearsed.journal }
     ensures status { IsAfter rehearsed.end result.status }
     ensures wrote { WroteRun result.status form (plan_of rehearsed.journal) (past_of rehearsed.journal) (K.held sink.old) (K.held sink.new) }

@@ -1,4 +1,4 @@
-ghost use Rattle.std.specs.Prelude.{◌≡◌, ◌<◌, ◌+◌, ◌^◌, ◌-◌, [], min, Some};
+ghost use Rattle.std.specs.Prelude.{◌≡◌, ◌<◌, ◌≤◌, ◌+◌, ◌^◌, ◌-◌, [], min, Some, IfOk};
 ghost use Rattle.upd_base.specs.Edge.{Writes, HasCause};
 ghost use Rattle.upd_fakes.specs.Mem.{FailsAsListed};
 
@@ -18,7 +18,7 @@ pub struct MemSink {
 }
 
 impl MemSink {
-    ghost use Rattle.upd_fakes.specs.Calls.{sink_fails, sink_writes};
+    ghost use Rattle.upd_fakes.specs.Calls.{sink_fails, sink_piece, sink_writes};
 
     /// It holds nothing yet.
     pub fn new(alloc: Global, piece: usize, fails: Vec<u64>) -> MemSink
@@ -26,6 +26,7 @@ impl MemSink {
         ensures held { ⟦<MemSink as Sink>⟧.held result ≡ Some [] }
         ensures listed { sink_fails result ≡ fails.items }
         ensures none { sink_writes result ≡ 0 }
+        ensures piece { sink_piece result ≡ piece }
     {
         MemSink {
             bytes: Vec::new(alloc),
@@ -46,7 +47,7 @@ impl MemSink {
 
 impl Sink for MemSink {
     ghost use Rattle.std.specs.Prelude.{Some};
-    ghost use Rattle.upd_fakes.specs.Calls.{sink_fails, sink_writes};
+    ghost use Rattle.upd_fakes.specs.Calls.{sink_fails, sink_piece, sink_writes};
 
     ghost held = { λ s. Some s.bytes.items };
 
@@ -58,6 +59,8 @@ impl Sink for MemSink {
         ensures listed { FailsAsListed (sink_fails self.old) (sink_writes self.old) result }
         ensures counted { sink_writes self.new ≡ min (sink_writes self.old + 1) (2 ^ 64 - 1) }
         ensures list { sink_fails self.new ≡ sink_fails self.old }
+        ensures piece { IfOk result (λ count. count ≤ sink_piece self.old) }
+        ensures same_piece { sink_piece self.new ≡ sink_piece self.old }
     {
         self.writes = self.writes.saturating_add(1);
         if self.fails.contains(&self.writes) {

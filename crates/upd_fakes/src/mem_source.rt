@@ -1,4 +1,4 @@
-ghost use Rattle.std.specs.Prelude.{◌≡◌, ◌+◌, ◌<◌, ◌≤◌, ◌↔◌, ◌^◌, ◌-◌, min, ℕ, [], take, drop, length, Some, IsErrOf, Contains, vec_len};
+ghost use Rattle.std.specs.Prelude.{◌≡◌, ◌+◌, ◌<◌, ◌≤◌, ◌↔◌, ◌^◌, ◌-◌, min, ℕ, [], take, drop, length, Some, IfOk, IsErrOf, Contains, vec_len};
 ghost use Rattle.upd_base.specs.Edge.{Reads, HasCause};
 ghost use Rattle.upd_fakes.specs.Mem.{FailsAsListed};
 
@@ -19,7 +19,7 @@ pub struct MemSource {
 }
 
 impl MemSource {
-    ghost use Rattle.upd_fakes.specs.Calls.{source_fails, source_reads};
+    ghost use Rattle.upd_fakes.specs.Calls.{source_fails, source_piece, source_reads};
 
     /// Nothing of the bytes is read yet.
     pub fn new(bytes: Vec<u8>, piece: usize, fails: Vec<u64>) -> MemSource
@@ -27,6 +27,7 @@ impl MemSource {
         ensures left { ⟦<MemSource as Source>⟧.left result ≡ Some bytes.items }
         ensures listed { source_fails result ≡ fails.items }
         ensures none { source_reads result ≡ 0 }
+        ensures piece { source_piece result ≡ piece }
     {
         MemSource {
             bytes,
@@ -40,7 +41,7 @@ impl MemSource {
 }
 
 impl Source for MemSource {
-    ghost use Rattle.upd_fakes.specs.Calls.{source_fails, source_reads};
+    ghost use Rattle.upd_fakes.specs.Calls.{source_fails, source_piece, source_reads};
     ghost use Rattle.std.specs.Prelude.{Some, drop};
 
     ghost left = { λ s. Some (drop s.place s.bytes.items) };
@@ -53,6 +54,8 @@ impl Source for MemSource {
         ensures listed { FailsAsListed (source_fails self.old) (source_reads self.old) result }
         ensures counted { source_reads self.new ≡ min (source_reads self.old + 1) (2 ^ 64 - 1) }
         ensures list { source_fails self.new ≡ source_fails self.old }
+        ensures piece { IfOk result (λ count. count ≤ source_piece self.old) }
+        ensures same_piece { source_piece self.new ≡ source_piece self.old }
         ensures memory { IsErrOf result EdgeFault.NoMemory → ⊥ }
     {
         self.reads = self.reads.saturating_add(1);

@@ -1,11 +1,11 @@
-ghost use Rattle.std.specs.Prelude.{◌≡◌, ◌<◌, ◌^◌, ◌≤◌, IfOk};
+ghost use Rattle.std.specs.Prelude.{◌≡◌, ◌<◌, ◌+◌, ◌^◌, ◌≤◌, IfOk};
 ghost use Rattle.upd_base.specs.Edge.{HasCause};
-ghost use Rattle.upd_io.specs.Whole.{ReadUpTo};
+ghost use Rattle.upd_io.specs.Whole.{ReadUpTo, TakesAtMost};
 
 use std::alloc::Global;
 use upd_base::{EdgeFault, Source};
 
-/// Reads a source to its end, or to one byte past the limit.
+/// Reads a source to its end, or to one byte past the limit, and takes no more from it, also where it fails.
 pub fn read_all<S: Source>(
     alloc: Global,
     source: &mut S,
@@ -13,6 +13,7 @@ pub fn read_all<S: Source>(
 ) -> Result<Vec<u8>, EdgeFault>
     requires { limit < 2 ^ 40 }
     ensures bytes { IfOk result (λ bytes. ReadUpTo (S.left source.old) (S.left source.new) limit bytes.items) }
+    ensures taken { TakesAtMost (S.left source.old) (S.left source.new) (limit + 1) }
     ensures cause { HasCause (S.faults source.old) (S.faults source.new) result }
 {
     let mut bytes = Vec::new(alloc);

@@ -7,6 +7,7 @@ mod std_edge;
 use line_fakes::SureLines;
 use loop_link::LoopLines;
 use program_texts::Status;
+use program_words::{LineKind, run_of};
 use std::alloc::Global;
 use std::env;
 use std::io::{Error, ErrorKind};
@@ -36,11 +37,12 @@ fn words_of(rt: &HostRuntime) -> Result<Vec<String>, Error> {
     Ok(words)
 }
 
-/// Runs a scenario with threads, over lines in memory where the second word names them and else over sockets.
+/// Runs a scenario with threads over lines of this kind.
 fn run<S: Source, K: Sink, N: Net + Drop, R: Threads + Wait + Sync>(
     rt: &R,
     net: N,
     alloc: Global,
+    over: LineKind,
     words: &[String],
     source: &mut S,
     sink: &mut K,
@@ -48,12 +50,12 @@ fn run<S: Source, K: Sink, N: Net + Drop, R: Threads + Wait + Sync>(
 where
     N::Stream: Send,
 {
-    match words {
-        [_, over, ..] if over.as_str() == "memory" => {
+    match over {
+        LineKind::Memory => {
             let mut lines = SureLines::new(alloc);
             live(rt, alloc, words, source, sink, &mut lines, &OpenGate).status
         }
-        _ => {
+        LineKind::Loopback => {
             let mut lines = LoopLines::new(net);
             live(rt, alloc, words, source, sink, &mut lines, &OpenGate).status
         }
@@ -68,11 +70,9 @@ fn main(rt: HostRuntime) -> ExitCode {
     let words = words.as_slice();
     let mut source = StdSource::new(rt.stdin());
     let mut sink = StdSink::new(rt.stdout());
-    let status = match words {
-        [first, ..] if first.as_str() == "run" => {
-            run(&rt, rt, alloc, words, &mut source, &mut sink)
-        }
-        _ => plain(alloc, words, &mut source, &mut sink).status,
+    let status = match run_of(words) {
+        Some(asked) => run(&rt, rt, alloc, asked.over, words, &mut source, &mut sink),
+        None => plain(alloc, words, &mut source, &mut sink).status,
     };
     ExitCode::from(status.code())
 }

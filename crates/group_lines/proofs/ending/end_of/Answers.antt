@@ -6,7 +6,7 @@ use Rattle.run_journal.specs.Journal.{plan_of, past_of}
 use Rattle.line_rules.specs.declared.line_state.LineState.TheVariants.{Missing}
 use Rattle.group_lines.specs.Visits.{LinkStands}
 use Rattle.group_lines.specs.Told.{IsDownState}
-use Rattle.group_lines.proofs.Ends.{held_down, held_settled}
+use Rattle.group_lines.proofs.Ends.{held_down, held_settled, none_lied}
 use Rattle.group_lines.proofs.ending.end_of.Goals as goal
 
 pub link_at-from-requires-clause-few : goal.link_at-from-requires-clause-few
@@ -38,6 +38,7 @@ returns-in-Some-lowest_down g c =
         held_up = held_down r plan past c.args.states.now c.in_default.ensures.none c.requires.places (c.requires.rest room);
       },
       subst (λ k. IsDownState (get_or c.args.states.now k Missing)) (sym s.there) c.in-Some-lowest_down.ensures.found,
+      none_lied plan c.args.states.now c.in_default.ensures.none c.requires.places,
     )
 
 pub unreachable-requires : goal.unreachable-requires
