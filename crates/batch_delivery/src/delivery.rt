@@ -1,3 +1,4 @@
+//! From decided batches to one total order: batches go by instance, and an item in several of them is delivered once.
 ghost use Rattle.std.specs.Prelude.{ℕ, List, All, true, false, None, ◌≡◌, ◌≢◌, ◌<◌, ◌≤◌, ◌+◌, ◌∷◌, ◌++◌, ◌||◌, [], IfOk, IfSome, IfNone, OnOk, OnErr, is_some, length, Some, take};
 ghost use Rattle.std.specs.List.{list_all};
 ghost use Rattle.std.specs.Ordering.{nat_cmp};

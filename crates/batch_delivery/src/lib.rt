@@ -5,6 +5,3 @@
 mod delivery;
 
 pub use delivery::Delivery;
-
-#[cfg(test)]
-mod tests;

@@ -1,3 +1,4 @@
+//! Total order broadcast by successive instances of consensus: one member's state, and what it does at each body.
 ghost use Rattle.std.specs.Prelude.{ℕ, List, ◌≡◌, ◌<◌, ◌≤◌, ◌∷◌, ◌++◌, [], true, None, IfOk, OnOk, option_to_list};
 ghost use Rattle.std.specs.List.{flat_map};
 ghost use Rattle.fifo_net.specs.Net.{Took};

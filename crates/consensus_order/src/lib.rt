@@ -5,6 +5,3 @@ mod consensus;
 mod ordering;
 
 pub use consensus::ConsensusOrder;
-
-#[cfg(test)]
-mod tests;

@@ -1,3 +1,4 @@
+//! Consensus as an `Ordering`: each body goes to an item's broadcast or to its instance, then delivery follows.
 ghost use Rattle.std.specs.Prelude.{ℕ, List, true, ◌≡◌, ◌∷◌, ◌++◌, OnOk};
 ghost use Rattle.std.specs.List.{flat_map};
 ghost use Rattle.fifo_net.specs.Net.{Took};

@@ -1,3 +1,4 @@
+//! One round's ballot at its coordinator: estimates and replies, each up to a majority, each member's counted once.
 ghost use Rattle.std.specs.Prelude.{ℕ, Bool, ◌↔◌, IsTrue, ◌≡◌, ◌<◌, ◌≤◌, ◌++◌, true, List, [], None, Some, length, IfOk, IfSome, IsSome, OnOk, OnErr};
 ghost use Rattle.instance_rules.specs.declared.estimate.Estimate.{Estimate};
 ghost use Rattle.std.specs.List.{list_any, list_all, All};

@@ -1,3 +1,4 @@
+//! The rounds that one member coordinates: open ones with their ballots, those that are over as numbers alone.
 ghost use Rattle.std.specs.Prelude.{◌≢◌};
 
 use crate::ballot::Ballot;

@@ -1,3 +1,4 @@
+//! Consensus as its callers see it: a member starts with a batch, takes bodies and suspicions, and may decide.
 ghost use Rattle.std.specs.Arc.{arc_value};
 ghost use Rattle.ct_consensus.specs.Stands.{IsState, StateFits, StateFits-prop};
 

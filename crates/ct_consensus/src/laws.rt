@@ -1,3 +1,4 @@
+//! Inputs after which an instance of consensus need not be changed: a trust, and a suspicion without effect.
 ghost use Rattle.std.specs.Prelude.{ℕ, ◌∷◌};
 ghost use Rattle.fifo_net.specs.Net.{Called};
 ghost use Rattle.instance_rules.specs.Say.{Turns, Suspects, Trusts};

@@ -15,6 +15,3 @@ mod state;
 
 pub use instance::Instance;
 pub use laws::stands_longer;
-
-#[cfg(test)]
-mod tests;

@@ -1,3 +1,4 @@
+//! What a participant sends as it goes from round to round: its estimate at each entry, then a yes or a refusal.
 ghost use Rattle.std.specs.Prelude.{ℕ, Bool, ◌≡◌, ◌≤◌, ◌∷◌, [], true, false, OnOk, IfOk, if◌then◌else◌};
 ghost use Rattle.order_trait.specs.Outbox.{Grows, SendFits};
 ghost use Rattle.instance_rules.specs.Say as say;

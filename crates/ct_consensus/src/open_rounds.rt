@@ -1,3 +1,4 @@
+//! Ordered maps from rounds to ballots: putting in and copying, and what becomes of each round's ballot.
 ghost use Rattle.std.specs.Prelude.{ℕ, ◌≡◌, ◌≢◌, Some, OnOk, IfOk};
 ghost use Rattle.std.specs.Ordering.{nat_cmp};
 ghost use Rattle.std.specs.BTreeMap.{get, insert_entry};

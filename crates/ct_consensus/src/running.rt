@@ -1,3 +1,4 @@
+//! A member that has not decided, in both its roles: participant in each round, coordinator of some.
 ghost use Rattle.std.specs.Prelude.{ℕ, Bool, ◌≡◌, ◌≢◌, ◌≤◌, ◌∷◌, ◌++◌, ◌||◌, [], true, None, Some, OnOk, IfOk, IfSome};
 ghost use Rattle.fifo_net.specs.Net.{Called, Took};
 ghost use Rattle.upd_base.specs.Body.{BodyFits, is_body};

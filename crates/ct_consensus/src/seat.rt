@@ -1,3 +1,4 @@
+//! Which member of which instance this is; from it, each round's rotating coordinator and the size of a majority.
 ghost use Rattle.std.specs.Prelude.{◌≡◌, ◌≤◌, ◌<◌};
 ghost use Rattle.instance_rules.specs.Say as rules;
 ghost use Rattle.instance_rules.specs.Says as leading;

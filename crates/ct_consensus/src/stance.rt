@@ -1,3 +1,4 @@
+//! The participant's role: how starts, proposals, ends of rounds and suspicions change its round and estimate.
 ghost use Rattle.std.specs.Prelude.{ℕ, Bool, ◌≡◌, ◌≤◌, ◌∷◌, [], true, false, OnOk, IfOk};
 ghost use Rattle.fifo_net.specs.Net.{Called, Took};
 ghost use Rattle.order_trait.specs.Outbox.{Grows, SendFits};

@@ -1,3 +1,4 @@
+//! An instance before and after its decision: the first decision holds, is passed on to all, and ends all else.
 ghost use Rattle.std.specs.Prelude.{ℕ, ◌≡◌, ◌∷◌, [], true, Some, IfOk, OnOk, if◌then◌else◌, option_copied};
 ghost use Rattle.fifo_net.specs.Net.{Called, Took};
 ghost use Rattle.upd_base.specs.Body.{BodyFits};

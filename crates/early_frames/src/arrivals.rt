@@ -1,3 +1,4 @@
+//! A queue of held frames, sorted by version and then by arrival: how the earliest one that may go is found.
 ghost use Rattle.std.specs.Prelude.{ℕ, ◌≡◌, ◌<◌, ◌≤◌, ◌+◌, [], ◌∷◌, ◌++◌, length, All, AllPairs, is_some, option_copied};
 ghost use Rattle.std.specs.List.{AllWithin};
 ghost use Rattle.std.specs.VecDeque.{deque_len, deque_capacity};

@@ -1,3 +1,4 @@
+//! Frames that came before their version was reached, and the release of the earliest whose version now is.
 ghost use Rattle.std.specs.Prelude.{◌≡◌, ◌≤◌, ◌+◌, [], ◌∷◌, ◌++◌, OnOk, OnErr, is_some, option_copied};
 ghost use Rattle.early_frames.specs.Held.{first_ready, waits, without_ready};
 

@@ -1,3 +1,4 @@
+//! New arrival numbers for the held frames, whose order stays: no count of arrivals exhausts the numbers.
 ghost use Rattle.std.specs.Prelude.{◌≡◌, ◌<◌, ◌+◌, ◌^◌, [], ◌++◌, length, All, AllPairs, IfNone, IfOk, OnErr, option_to_list};
 ghost use Rattle.std.specs.VecDeque.{deque_len};
 ghost use Rattle.early_frames.specs.Arrivals.{frames_of, Precedes};

@@ -1,3 +1,4 @@
+//! The FIFO channels of a whole group, self-links included, with room made ahead for sends that cannot be refused.
 ghost use Rattle.std.specs.Prelude.{ℕ, ◌≡◌, ◌<◌, ◌≤◌, ◌+◌, ◌-◌, ◌*◌, [], ◌∷◌, ◌++◌, List, OnOk, OnErr, IfOk, option_to_list, option_copied, slice_get};
 ghost use Rattle.std.specs.VecDeque.{deque_len, deque_capacity};
 ghost use Rattle.upd_base.specs.declared.frame.Frame.{Frame};

@@ -1,3 +1,4 @@
+//! A frame's way through a line, with each piece got back and compared, and the three causes for which it fails.
 ghost use Rattle.std.specs.Prelude.{◌≡◌, ◌≢◌, ◌≤◌, ◌<◌, IfOk, IfErr, IfSome, IfNone, OnOk, length, take, slice_index};
 ghost use Rattle.upd_frame.specs.Spelling.{IsFrame, spelling};
 ghost use Rattle.line_rules.specs.declared.line_state.TheConstants.{MAX_FRAME};

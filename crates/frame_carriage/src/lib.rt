@@ -6,6 +6,3 @@ mod limits;
 
 pub use carriage::{Came, CarryFault, PIECE, carry};
 pub use limits::keeps_limits;
-
-#[cfg(test)]
-mod tests;

@@ -1,3 +1,4 @@
+//! Why each frame whose version and numbers are in range can be encoded: its parts' types keep the other limits.
 ghost use Rattle.std.specs.Prelude.{◌≡◌, ◌≤◌, true};
 ghost use Rattle.std.specs.List.{AllByRecursion};
 ghost use Rattle.upd_base.specs.Body.{is_body};

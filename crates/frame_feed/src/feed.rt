@@ -1,3 +1,4 @@
+//! Decoding of frames from a byte stream that comes in pieces: how far an unfinished frame was read is remembered.
 ghost use Rattle.std.specs.Prelude.{◌≡◌, ◌≤◌, ◌<◌, ◌-◌, ◌++◌, [], Err, IfOk, IfSome, IsTrue, OnOk, OnErr, drop, length, vec_len};
 ghost use Rattle.std.specs.List.{list_all};
 ghost use Rattle.upd_base.specs.Text.{is_printable};

@@ -6,6 +6,3 @@ mod laws;
 
 pub use feed::Feed;
 pub use laws::streams;
-
-#[cfg(test)]
-mod tests;

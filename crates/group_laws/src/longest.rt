@@ -1,3 +1,4 @@
+//! The longest of the members' delivery logs; by total order, each member's log is a prefix of it.
 ghost use Rattle.std.specs.Prelude.{ℕ, ◌≡◌, ◌<◌, ◌≤◌, length};
 ghost use Rattle.fifo_net.specs.Net.{IsPrefix};
 ghost use Rattle.member_rules.specs.Kept.{rules_of};

@@ -1,3 +1,4 @@
+//! Whether a run is free of crashes and of suspicions, told from the calls and answers that its journal records.
 ghost use Rattle.std.specs.Prelude.{◌≡◌, ◌↔◌, IsTrue};
 ghost use Rattle.group_run.specs.Settled.{IsQuiet, is_loud};
 ghost use Rattle.group_laws.specs.Loud.{is_loud_event};

@@ -1,3 +1,4 @@
+//! One frame through a line, and the line's state after it: more bytes came, or it is down, lied or stopped.
 ghost use Rattle.std.specs.Prelude.{ℕ, ◌≡◌, ◌+◌, ◌^◌, ◌<◌, ◌≤◌, ◌++◌, List, [], ◌∷◌, Some, None, Ok, Err, IfOk, IfSome, IfNone, OnOk, OnErr, OnSome};
 ghost use Rattle.upd_base.specs.declared.frame.Frame.{Frame};
 ghost use Rattle.upd_lines.specs.Line.{Told};

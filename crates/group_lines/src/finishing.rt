@@ -1,3 +1,4 @@
+//! The rest of a group's run over lines, on one thread: with lines that are new in the call, or used before in it.
 ghost use Rattle.std.specs.Prelude.{ℕ, ◌≡◌, ◌*◌, ◌<◌, List, Option, length, map, All, IfOk};
 ghost use Rattle.member_rules.specs.Kept.{rules_of};
 ghost use Rattle.group_run.specs.Run.{Events};

@@ -13,6 +13,3 @@ mod visits;
 pub use bringing::bring;
 pub use finishing::{finish, finish_from};
 pub use ran::Ran;
-
-#[cfg(test)]
-mod tests;

@@ -1,3 +1,4 @@
+//! From the place of a line, in the table of all ordered pairs of members, back to its sender and receiver.
 ghost use Rattle.std.specs.Prelude.{◌≡◌, ◌*◌, ◌<◌, ◌≤◌};
 ghost use Rattle.group_lines.specs.Visits.{LinkStands};
 

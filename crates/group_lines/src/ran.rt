@@ -1,3 +1,4 @@
+//! What a run over lines gives back to its caller.
 use line_rules::RunEnd;
 use order_trait::Ordering;
 use run_journal::Journal;

@@ -1,3 +1,4 @@
+//! A run with protocol replacement among broadcasts: the message that missed the switch is broadcast again.
 ghost use Rattle.std.specs.Prelude.{◌≡◌, [], ◌∷◌, length};
 ghost use Rattle.upd_base.specs.declared.kind.Kind.TheVariants.{Lamport};
 ghost use Rattle.group_run.specs.Run.{IsGroupRun};

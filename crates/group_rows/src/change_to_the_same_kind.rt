@@ -1,3 +1,4 @@
+//! A run of one member whose protocol is replaced by itself: the switch ends a version all the same.
 ghost use Rattle.std.specs.Prelude.{◌≡◌, [], ◌∷◌, length};
 ghost use Rattle.upd_base.specs.declared.kind.Kind.TheVariants.{Sequencer};
 ghost use Rattle.group_run.specs.Run.{IsGroupRun};

@@ -1,3 +1,4 @@
+//! A run with a crash, settled though an accepted message was lost with its sender.
 ghost use Rattle.std.specs.Prelude.{◌≡◌, [], ◌∷◌, true, false, length};
 ghost use Rattle.upd_base.specs.declared.item.Item.TheVariants.{Msg};
 ghost use Rattle.upd_base.specs.declared.kind.Kind.TheVariants.{Sequencer, Lamport};

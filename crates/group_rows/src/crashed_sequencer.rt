@@ -1,3 +1,4 @@
+//! A run with a crash of the fixed sequencer: what it has ordered is delivered, what it was asked later is not.
 ghost use Rattle.std.specs.Prelude.{◌≡◌, [], ◌∷◌, true, false, length};
 ghost use Rattle.upd_base.specs.declared.item.Item.TheVariants.{Msg};
 ghost use Rattle.upd_base.specs.declared.kind.Kind.TheVariants.{Sequencer};

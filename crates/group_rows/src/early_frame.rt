@@ -1,3 +1,4 @@
+//! A run, told event by event, in which a frame of the next version comes before its receiver has switched.
 ghost use Rattle.std.specs.Prelude.{◌≡◌, [], ◌∷◌, length};
 ghost use Rattle.upd_base.specs.declared.kind.Kind.TheVariants.{Sequencer};
 ghost use Rattle.group_run.specs.Run.{IsGroupRun};

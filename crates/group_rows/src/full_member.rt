@@ -1,3 +1,4 @@
+//! A run in which nothing is delivered, so that a member comes to its limit of undelivered messages.
 ghost use Rattle.std.specs.Prelude.{◌≡◌, [], ◌∷◌, true, false, length};
 ghost use Rattle.upd_base.specs.declared.kind.Kind.TheVariants.{Sequencer};
 ghost use Rattle.group_run.specs.Run.{IsGroupRun};

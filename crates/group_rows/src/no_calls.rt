@@ -1,3 +1,4 @@
+//! The empty run: a group of which nothing is asked is settled at once.
 ghost use Rattle.std.specs.Prelude.{◌≡◌, [], ◌∷◌, length};
 ghost use Rattle.upd_base.specs.declared.kind.Kind.TheVariants.{Lamport};
 ghost use Rattle.group_run.specs.Run.{IsGroupRun};

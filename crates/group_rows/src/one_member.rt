@@ -1,3 +1,4 @@
+//! The least run that delivers: a group of one, which broadcasts to itself.
 ghost use Rattle.std.specs.Prelude.{◌≡◌, [], ◌∷◌, length};
 ghost use Rattle.upd_base.specs.declared.kind.Kind.TheVariants.{Sequencer};
 ghost use Rattle.group_run.specs.Run.{IsGroupRun};

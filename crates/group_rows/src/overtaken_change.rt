@@ -1,3 +1,4 @@
+//! A run with two concurrent replacements of the protocol: one takes effect, at both members the same.
 ghost use Rattle.std.specs.Prelude.{◌≡◌, [], ◌∷◌, length};
 ghost use Rattle.upd_base.specs.declared.item.Item.TheVariants.{Switch};
 ghost use Rattle.upd_base.specs.declared.kind.Kind.TheVariants.{Lamport};

@@ -1,3 +1,4 @@
+//! A run with concurrent broadcasts of two threads, which three members deliver in the same order.
 ghost use Rattle.std.specs.Prelude.{◌≡◌, [], ◌∷◌, length};
 ghost use Rattle.upd_base.specs.declared.kind.Kind.TheVariants.{Sequencer};
 ghost use Rattle.group_run.specs.Run.{IsGroupRun};

@@ -1,3 +1,4 @@
+//! The commit of a prepared event, part by part: its member, links and count of calls. No part can be refused.
 ghost use Rattle.std.specs.Prelude.{◌≡◌, ◌<◌, ◌≤◌, ◌++◌, ◌==◌, ℕ, Some, All, [], if◌then◌else◌, length, map, set, slice_get, slice_index_or};
 ghost use Rattle.fifo_net.specs.Net.{bodies_to};
 ghost use Rattle.fifo_link.specs.Links.{on_link, spare_of};

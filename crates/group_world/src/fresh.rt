@@ -1,3 +1,4 @@
+//! A group's initial state: each member at its seat with no input yet, and no call made.
 ghost use Rattle.std.specs.Prelude.{true, ◌≡◌, [], IfOk, length, map, replicate};
 ghost use Rattle.member_core.specs.Member.{kept_by};
 ghost use Rattle.member_rules.specs.Stands.{Stands};

@@ -13,6 +13,3 @@ mod world;
 pub use moves::Move;
 pub use prepared::PreparedMove;
 pub use world::World;
-
-#[cfg(test)]
-mod tests;

@@ -1,3 +1,4 @@
+//! What a schedule of a group chooses among: calls, receipts and releases.
 use upd_base::MemberId;
 
 /// What may be chosen next in a group.

@@ -1,3 +1,4 @@
+//! An event between its two phases: prepared and not yet committed.
 use member_core::Prepared;
 use upd_base::Event;
 

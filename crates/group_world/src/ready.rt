@@ -1,3 +1,4 @@
+//! The phase of an event that may be refused: its member's turn is prepared, and its links get room for the sends.
 ghost use Rattle.std.specs.Prelude.{◌≡◌, ◌<◌, ◌≤◌, ℕ, Some, IfOk, OnOk, is_some, length, map, slice_get};
 ghost use Rattle.fifo_net.specs.Net.{bodies_to};
 ghost use Rattle.fifo_link.specs.Links.{spare_of};

@@ -1,3 +1,4 @@
+//! One input on its way to one member: what a move of the group comes to before it is prepared.
 use member_core::Input;
 use upd_base::MemberId;
 

@@ -1,3 +1,4 @@
+//! The state of a whole group: which moves are enabled, and one of them prepared, then committed without memory.
 ghost use Rattle.std.specs.Prelude.{ℕ, true, false, Some, None, ◌≡◌, ◌<◌, ◌≤◌, ◌+◌, ◌∷◌, [], List, IfOk, IfSome, IsTrue, IsSome, is_some, ◌↔◌, map, length, option_copied, slice_get};
 ghost use Rattle.upd_base.specs.declared.event.Event.{Event};
 

@@ -1,3 +1,4 @@
+//! The value that a member holds for an instance of consensus, stamped with the round in which it was adopted.
 ghost use Rattle.std.specs.Prelude.{◌≡◌, IfOk};
 
 use std::alloc::Global;

@@ -1,3 +1,4 @@
+//! A member's state in one instance of consensus, as far as one round hands it to the next.
 ghost use Rattle.std.specs.Prelude.{◌≡◌, IfOk};
 
 use crate::estimate::Estimate;

@@ -4,6 +4,3 @@
 mod table;
 
 pub use table::Instances;
-
-#[cfg(test)]
-mod tests;

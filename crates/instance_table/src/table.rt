@@ -1,3 +1,4 @@
+//! The undecided instances of consensus at one member: bodies go to theirs by number, and a suspicion goes to all.
 ghost use Rattle.std.specs.Prelude.{ℕ, Bool, List, ◌≡◌, ◌≢◌, ◌<◌, ◌≤◌, ◌∷◌, ◌++◌, ◌==◌, ◌||◌, ◌&&◌, not, [], false, true, None, Some, IfOk, OnOk, OnErr};
 ghost use Rattle.std.specs.List.{flat_map};
 ghost use Rattle.std.specs.Ordering.{nat_cmp};

@@ -1,3 +1,4 @@
+//! Why a journal is refused: its length, its first bad line, its first bad event, or want of memory.
 ghost use Rattle.std.specs.Prelude.{◌≡◌};
 
 use thiserror::Error;

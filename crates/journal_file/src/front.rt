@@ -1,3 +1,4 @@
+//! Cutting the first line off the bytes that are left.
 ghost use Rattle.std.specs.Prelude.{◌≡◌, ◌++◌, IfSome, IfNone};
 ghost use Rattle.journal_file.specs.Text.{ended};
 ghost use Rattle.journal_file.specs.Reading.{IsLine};

@@ -15,6 +15,3 @@ pub use fault::JournalFault;
 pub use limits::MAX_TEXT;
 pub use reading::read_journal;
 pub use text::journal_text;
-
-#[cfg(test)]
-mod tests;

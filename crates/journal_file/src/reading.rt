@@ -1,3 +1,4 @@
+//! From bytes to a journal in two passes: the whole text by its grammar first, and only then its events, made again.
 ghost use Rattle.std.specs.Prelude.{true, ◌≡◌, IfOk, IfErr, map};
 ghost use Rattle.upd_base.specs.declared.kind.Kind.{Kind};
 ghost use Rattle.group_run.specs.Group.{Rules};
@@ -51,6 +52,3 @@ fn read_text(alloc: Global, bytes: &[u8]) -> Result<Recorded, JournalFault>
     }
     stage.finish(rest).ok_or(JournalFault::Line(number))
 }
-
-#[cfg(test)]
-mod tests;

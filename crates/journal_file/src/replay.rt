@@ -1,3 +1,4 @@
+//! The replay of a recorded run: each event is made again from the plan, and each call must get the answer written.
 ghost use Rattle.std.specs.Prelude.{ℕ, List, true, Some, ◌≡◌, ◌<◌, ◌≤◌, IfOk, IfErr, IfSome, IfNone, length, map};
 ghost use Rattle.upd_base.specs.Plan.{bound, planned};
 ghost use Rattle.upd_base.specs.declared.call.Step.{Step};

@@ -1,3 +1,4 @@
+//! The grammar of a journal as a state machine over lines: what is wanted next, with what was read so far.
 ghost use Rattle.std.specs.Prelude.{◌≡◌, ◌≤◌, [], IfOk, IfSome, IfNone, length, map};
 ghost use Rattle.upd_base.specs.Plan.{change_count};
 ghost use Rattle.journal_file.specs.Grammar.{calls_with, event_or_end, step_or_thread, thread_or_events, with_thread};

@@ -1,3 +1,4 @@
+//! Writing a journal: a line for each part of the plan and each event, in the one spelling that the reader takes.
 ghost use Rattle.std.specs.Prelude.{◌≡◌, ◌++◌, ◌<◌, ◌≤◌, All, IfOk, OnOk, flat_map, length, map, string_bytes};
 ghost use Rattle.upd_base.specs.declared.event.Event.TheVariants.{Call as CallEvent};
 ghost use Rattle.upd_base.specs.Plan.{steps_of};

@@ -1,3 +1,4 @@
+//! The greatest timestamp heard from each member, and the least of these.
 ghost use Rattle.std.specs.Prelude.{◌≡◌, ◌<◌, max, slice_index, slice_set, length};
 ghost use Rattle.lamport_rules.specs.Lamport.{least_below};
 

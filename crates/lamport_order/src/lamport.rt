@@ -1,3 +1,4 @@
+//! Total order broadcast by Lamport timestamps: a request is delivered once every member was heard up to its stamp.
 ghost use Rattle.std.specs.Prelude.{ℕ, ◌≡◌, ◌<◌, ◌≤◌, ◌∷◌, ◌++◌, if◌then◌else◌, max, not, nat_le, slice_index, slice_set, length, map, All, OnOk, IsOk};
 ghost use Rattle.std.specs.List.{filter};
 ghost use Rattle.fifo_net.specs.Net.{Called};

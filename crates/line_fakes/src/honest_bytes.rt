@@ -1,3 +1,4 @@
+//! The bytes that a get of a line in memory copies: the next ones, as many as there is room for and a call may give.
 ghost use Rattle.std.specs.Prelude.{◌≡◌, ◌<◌, ◌≤◌, ◌-◌, [], take, length};
 
 /// Copies the front of what is left, at most `piece` bytes.

@@ -1,3 +1,4 @@
+//! Corrupted bytes, for tests: of the lines that are made, that of one link gives one byte with a bit turned.
 ghost use Rattle.std.specs.Prelude.{ℕ, ◌≡◌, ◌≤◌, ◌<◌, ◌&&◌, ◌==◌, if◌then◌else◌, length, IfOk, IsOk, Option, Some, None};
 ghost use Rattle.upd_base.specs.Edge.{HasCause};
 ghost use Rattle.upd_lines.specs.Line.{Gets, Puts, IsFresh};

@@ -1,3 +1,4 @@
+//! Planned faults, for tests: which call on which link's line fails, be it a put, a get or the making of the line.
 ghost use Rattle.std.specs.Prelude.{◌≡◌, ◌&&◌, ◌==◌};
 ghost use Rattle.line_fakes.specs.Fails.{same_way, is_for};
 

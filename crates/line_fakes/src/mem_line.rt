@@ -1,3 +1,4 @@
+//! A faithful line whose puts and gets fail where a list says, and which moves only so many bytes in a call.
 ghost use Rattle.std.specs.Prelude.{◌≡◌, ◌≤◌, ◌<◌, [], length, IfOk, IsErrOf};
 ghost use Rattle.upd_base.specs.Edge.{HasCause};
 ghost use Rattle.upd_lines.specs.Line.{Gets, Puts};

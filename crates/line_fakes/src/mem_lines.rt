@@ -1,3 +1,4 @@
+//! The maker of faithful lines from one list of planned faults: each line gets those of its own link.
 ghost use Rattle.std.specs.Prelude.{ℕ, ◌≡◌, ◌+◌, ◌*◌, ◌≤◌, ◌<◌, ◌↔◌, IfOk, IsTrue, IsErrOf};
 ghost use Rattle.upd_base.specs.Edge.{HasCause};
 ghost use Rattle.upd_lines.specs.Line.{IsFresh};

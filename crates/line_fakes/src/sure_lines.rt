@@ -1,3 +1,4 @@
+//! Lines in memory without faults: they are faithful, and only want of memory can refuse a put.
 ghost use Rattle.std.specs.Prelude.{◌≡◌, ◌≤◌, length, IsOk, IsErrOf};
 ghost use Rattle.upd_base.specs.Edge.{HasCause};
 ghost use Rattle.upd_lines.specs.Line.{Gets, Puts, IsFresh};

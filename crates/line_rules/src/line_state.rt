@@ -1,3 +1,5 @@
+//! What has become of one line in a call: whether it serves, or why it is used no more.
+
 /// How many bytes a frame has at most: an estimate of 32 messages of 256 bytes.
 pub const MAX_FRAME: usize = 8_476;
 

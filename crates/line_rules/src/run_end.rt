@@ -1,3 +1,4 @@
+//! The ways in which a run over lines can end, with the line at fault where one is.
 use upd_base::MemberId;
 
 /// How a run over lines ended.

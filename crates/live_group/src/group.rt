@@ -1,3 +1,5 @@
+//! A journal shared by threads: each call takes one turn under the lock and makes at most one event, and a pass knows
+//! which events its holder has seen and which are its own.
 ghost use Rattle.std.specs.Prelude.{◌≡◌, ◌≢◌, ◌+◌, ◌-◌, ◌<◌, ◌≤◌, ◌↔◌, ◌++◌, true, false, Some, [], length, IfOk, IfErr, IfSome, OnOk, OnErr, IsTrue};
 ghost use Rattle.upd_base.specs.Plan.{bound};
 ghost use Rattle.upd_base.specs.declared.event.Event.TheVariants.{Receive, Release};

@@ -1,3 +1,4 @@
+//! What the lock with history holds: a journal with the length of the list that it stands for, plan included.
 ghost use Rattle.std.specs.Prelude.{◌≡◌, length};
 ghost use Rattle.run_journal.specs.Journal.{plan_of, events_of};
 ghost use Rattle.live_group.specs.Recorded.{entries};

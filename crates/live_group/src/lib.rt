@@ -12,6 +12,3 @@ pub use group::{GroupPass, LiveGroup};
 pub use kept_journal::KeptJournal;
 pub use offer::Offer;
 pub use recorded::Recorded;
-
-#[cfg(test)]
-mod tests;

@@ -1,3 +1,4 @@
+//! The outcome of a call on a shared group: made and answered, or put off since the member is full.
 use upd_base::Answer;
 
 /// What became of a call.

@@ -1,3 +1,5 @@
+//! What deliveries do to a member: log entries, and at a switch the fresh module, told the suspicions and given the
+//! undelivered messages to broadcast again.
 ghost use Rattle.std.specs.Prelude.{ℕ, Bool, true, false, Some, None, ◌≡◌, ◌<◌, ◌≤◌, [], ◌∷◌, ◌++◌, length, map, All, IfOk, OnOk, slice_get, unwrap_or};
 ghost use Rattle.std.specs.List.{filter};
 ghost use Rattle.upd_base.specs.Kind.{KindFits};

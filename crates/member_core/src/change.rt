@@ -1,3 +1,4 @@
+//! The effect of one event on a member, computed beforehand and held until it is committed.
 use replacement::Repl;
 use upd_base::{Entry, Frame, MemberId};
 

@@ -1,3 +1,4 @@
+//! The parts of a member's commit, one for each thing that changes; the room they need was made before.
 ghost use Rattle.std.specs.Prelude.{◌≡◌, ◌<◌, ◌≤◌, ◌+◌, ◌-◌, ◌++◌, true, false, if◌then◌else◌, OnOk, is_some, length, option_to_list, set, unwrap_or, vec_len, vec_capacity};
 ghost use Rattle.group_run.specs.Held.{without_ready};
 

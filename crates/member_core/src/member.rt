@@ -1,3 +1,5 @@
+//! One member of the group, with a module for each version that it reached: calls, receipts and releases, each
+//! prepared with all its memory and then committed without any.
 ghost use Rattle.std.specs.Prelude.{ℕ, Bool, true, false, Some, None, ◌≡◌, ◌<◌, ◌≤◌, ◌+◌, ◌==◌, ◌&&◌, not, if◌then◌else◌, [], ◌∷◌, ◌++◌, length, List, All, IfOk, OnOk, OnErr, IfErr, is_some, nat_le, nat_lt, slice_get};
 ghost use Rattle.fifo_net.specs.Net.{Input as NetInput, Called, Took};
 ghost use Rattle.upd_base.specs.Kind.{kind_fits, KindFits};

@@ -1,3 +1,4 @@
+//! An event between its two phases: the change it will make, the answer of its call, and the frames that it sends.
 ghost use Rattle.std.specs.Prelude.{◌≡◌, [], Some, None, option_copied};
 ghost use Rattle.member_core.specs.declared.change.Change.TheVariants.{Nothing};
 ghost use Rattle.member_core.specs.Prepared.{answer_of, sent_of};

@@ -1,3 +1,4 @@
+//! The member's outgoing frames: a queue that is appended to whole, or not at all where memory is wanted.
 ghost use Rattle.std.specs.Prelude.{◌≡◌, ◌≤◌, ◌-◌, [], ◌∷◌, ◌++◌, length, OnOk, OnErr, IfNone, option_to_list};
 ghost use Rattle.std.specs.VecDeque.{deque_len, deque_capacity};
 

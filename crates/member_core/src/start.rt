@@ -1,3 +1,4 @@
+//! What a version or a member begins with: a fresh ordering module, or the replacement's state at version 0.
 ghost use Rattle.std.specs.Prelude.{ℕ, true, ◌≡◌, ◌<◌, ◌≤◌, [], IfOk};
 ghost use Rattle.upd_base.specs.Kind.{KindFits};
 ghost use Rattle.upd_base.specs.declared.limits.TheConstants.{MAX_MEMBERS};

@@ -1,3 +1,4 @@
+//! Steps of ordering modules, made on copies: the member stays as it is until it commits, and bodies become frames.
 ghost use Rattle.std.specs.List.{AllZip};
 ghost use Rattle.std.specs.Prelude.{ℕ, List, All, length, ◌≤◌, ◌≡◌, ◌≢◌, ◌<◌, ◌∷◌, ◌++◌, if◌then◌else◌, true, IfOk, OnOk};
 ghost use Rattle.fifo_net.specs.Net.{Called, Took};

@@ -9,6 +9,3 @@ mod serving;
 mod step;
 
 pub use running::run_threads;
-
-#[cfg(test)]
-mod tests;

@@ -1,3 +1,5 @@
+//! What one step of a worker came to: whether it made an event, and whether the worker goes on.
+
 /// What became of a step of a worker.
 #[derive(Clone, Copy, Debug, PartialEq, Eq)]
 pub(crate) enum Step {

@@ -1,3 +1,5 @@
+//! Agreement, integrity, fulfilment and the bound for every kind that is served, and a run of each kind as evidence
+//! that the laws speak of something.
 ghost use Rattle.std.specs.Prelude.{true, ◌≡◌, [], ◌∷◌};
 ghost use Rattle.upd_base.specs.declared.kind.Kind.{Kind};
 ghost use Rattle.upd_base.specs.declared.kind.Kind.TheVariants.{Sequencer, Lamport, Consensus};

@@ -1,3 +1,4 @@
+//! The choice among the ordering modules at run time: fixed sequencer, timestamps or consensus, behind one trait.
 ghost use Rattle.std.specs.Prelude.{ℕ, true, ◌≡◌};
 ghost use Rattle.module_binding.specs.declared.module.Module.TheVariants.{Sequencer, Lamport, Consensus};
 ghost use Rattle.module_binding.specs.Kinds.{is_served, sends_of, delivers_of};

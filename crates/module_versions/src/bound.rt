@@ -1,3 +1,4 @@
+//! The ordering modules of one member, one for each version: the newest or an older one is lent for change in place.
 ghost use Rattle.std.specs.Prelude.{ℕ, ◌≡◌, ◌<◌, ◌≤◌, [], ◌∷◌, ◌++◌, true, Some, length, slice_get, IfOk, OnOk, OnErr, IfSome, IsSome, ◌↔◌};
 ghost use Rattle.std.specs.Borrow.{sem};
 ghost use Rattle.upd_base.specs.Kind.{KindFits};

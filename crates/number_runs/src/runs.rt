@@ -1,3 +1,4 @@
+//! A set of pairs, row and number, in little space: numbers that come in succession lie in one run.
 ghost use Rattle.std.specs.Prelude.{ℕ, false, true, ◌≡◌, ◌<◌, ◌≤◌, ◌+◌, ◌||◌, [], not, length, set, slice_get, Some, IfOk, IfSome, OnOk, OnErr};
 ghost use Rattle.number_runs.specs.Runs.{covers, holds, is_pair, longer};
 

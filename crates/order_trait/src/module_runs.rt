@@ -1,3 +1,5 @@
+//! What holds of runs of ordering modules of every kind, whatever they send: links are first in, first out, and no
+//! item is broadcast twice.
 ghost use Rattle.std.specs.Prelude.{ℕ, ◌≡◌, ◌≤◌, ◌∷◌, count_by};
 ghost use Rattle.fifo_net.specs.Net.{Step, taken_on, sent_on, IsPrefix};
 ghost use Rattle.upd_base.specs.Item.{has_id};

@@ -1,3 +1,5 @@
+//! The interface of total order broadcast: the calls on a module, each tied to what its kind sends and delivers, and
+//! the four laws that every kind owes.
 ghost use Rattle.std.specs.Prelude.{ℕ, List, Bool, true, ◌≡◌, ◌≢◌, ◌<◌, ◌≤◌, [], ◌∷◌, ◌++◌, if◌then◌else◌, IfOk, OnOk};
 ghost use Rattle.fifo_net.specs.Net.{Input, Called, Took};
 ghost use Rattle.upd_base.specs.Kind.{KindFits};

@@ -1,3 +1,4 @@
+//! The queue into which an ordering module puts what it sends; its caller takes the bodies out in the same order.
 ghost use Rattle.std.specs.Prelude.{ℕ, true, ◌≡◌, ◌<◌, ◌≤◌, [], ◌∷◌, ◌++◌, OnOk, OnErr, IfNone, option_to_list};
 ghost use Rattle.upd_base.specs.Body.{BodyFits, is_body};
 ghost use Rattle.order_trait.specs.Outbox.{to_all, Grows, SendFits};

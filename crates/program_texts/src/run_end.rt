@@ -1,3 +1,4 @@
+//! The ways a run stops: settled, at its bound of events, or held up over a line that lied or is down.
 use upd_base::MemberId;
 
 /// How a run ended: nothing is left to do, or as many events as the bound were made. A run over lines may also be held

@@ -1,3 +1,4 @@
+//! The outcomes of the program, each with an exit status of its own: 0 when done, and 2 to 11.
 use journal_file::JournalFault;
 use scenario::ScenarioFault;
 use upd_base::MemberId;

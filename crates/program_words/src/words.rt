@@ -1,3 +1,5 @@
+//! The words of a command line as typed commands, and their readings: a seed fits 64 bits, a count of calls is
+//! 1 to 1,000, and what is none of the known forms is no command.
 ghost use Rattle.std.specs.Prelude.{◌≡◌, ◌≤◌, IfSome, Some, map, string_bytes};
 ghost use Rattle.std.specs.List.{list_all};
 ghost use Rattle.std.specs.Char.{is_ascii_digit};

@@ -1,3 +1,4 @@
+//! The list of all moves a scheduler may choose from: a call of each thread, a receipt on each link, a release.
 ghost use Rattle.std.specs.Prelude.{ℕ, ◌≡◌, ◌<◌, ◌≤◌, ◌++◌, [], map, length, IfOk, OnOk, All};
 ghost use Rattle.std.specs.List.{flat_map};
 ghost use Rattle.group_run.specs.Part.{below};

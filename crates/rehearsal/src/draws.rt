@@ -1,3 +1,4 @@
+//! The random schedule: a seeded generator draws each next event from the open moves, so plan and seed fix the run.
 ghost use Rattle.std.specs.Prelude.{ℕ, true, false, ◌≡◌, ◌<◌, ◌≤◌, ◌+◌, length, OnOk, OnErr, IfOk, Some, All, is_some, option_copied, slice_get, filter, not, ◌&&◌};
 ghost use Rattle.rand_pcg.specs.Lcg.{Lcg};
 ghost use Rattle.upd_base.specs.Plan.{bound};

@@ -10,6 +10,3 @@ mod visit;
 pub use draws::seeded;
 pub use rehearsed::{RehearsalEnd, Rehearsed};
 pub use rounds::round_robin;
-
-#[cfg(test)]
-mod tests;

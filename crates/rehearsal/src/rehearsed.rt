@@ -1,3 +1,4 @@
+//! What a schedule leaves: the journal that it went on with, and whether its run is settled or has spent its bound.
 ghost use Rattle.std.specs.Prelude.{◌≡◌, ◌≤◌, if◌then◌else◌, length, OnOk, OnErr};
 ghost use Rattle.upd_base.specs.Plan.{bound};
 ghost use Rattle.member_rules.specs.Kept.{rules_of};

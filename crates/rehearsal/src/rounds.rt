@@ -1,3 +1,4 @@
+//! The round-robin schedule: a round gives each thread, each link and each member at most one event.
 ghost use Rattle.std.specs.Prelude.{ℕ, true, ◌≡◌, ◌<◌, length, OnOk, OnErr, IfOk, IfErr, All};
 ghost use Rattle.upd_base.specs.Plan.{bound};
 ghost use Rattle.member_rules.specs.Kept.{rules_of};

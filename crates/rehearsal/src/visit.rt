@@ -1,3 +1,4 @@
+//! One step of a schedule: a chosen call, receipt or release is made where it is open, and passed over elsewhere.
 ghost use Rattle.std.specs.Prelude.{ℕ, true, ◌≡◌, ◌<◌, if◌then◌else◌, length, OnOk, OnErr, IfSome, All, is_some};
 ghost use Rattle.upd_base.specs.Plan.{bound};
 ghost use Rattle.member_rules.specs.Kept.{rules_of};

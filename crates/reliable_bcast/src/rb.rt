@@ -1,3 +1,4 @@
+//! Duplicate detection in reliable broadcast: whether a receipt is the first, and whether the member must relay it.
 ghost use Rattle.std.specs.Prelude.{◌≡◌, List, [], ◌∷◌, IfOk, OnOk, OnErr};
 ghost use Rattle.reliable_bcast.specs.Rb.{Event, Started, Received, StandsFor, seen};
 

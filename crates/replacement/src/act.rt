@@ -1,3 +1,4 @@
+//! What a delivery makes a member do: log an item, bind the next protocol, or broadcast a message again in that one.
 use upd_base::{Item, Kind};
 
 /// What a member does where the module of its present version delivers.

@@ -1,3 +1,5 @@
+//! The replacement of the ordering protocol at one member: a delivered switch ends the version, and what the member
+//! sent and has not delivered is broadcast again by the next protocol.
 ghost use Rattle.std.specs.Prelude.{◌≡◌, ◌<◌, ◌≤◌, [], ◌∷◌, ◌++◌, length, map, OnOk, OnErr, OnSome, IfOk, IfSome, IfNone};
 ghost use Rattle.upd_base.specs.declared.item.Item.TheVariants.{Msg, Switch};
 ghost use Rattle.upd_base.specs.declared.limits.TheConstants.{MAX_UNDELIVERED, MAX_VERSION};

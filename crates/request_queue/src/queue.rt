@@ -1,3 +1,4 @@
+//! A queue kept sorted by timestamp and then sender, from which all requests up to a given stamp are released.
 ghost use Rattle.std.specs.Prelude.{List, not, nat_le, map, ◌≡◌, ◌<◌, ◌≤◌, [], ◌++◌, All, IfOk, IfSome, IfNone, OnOk, OnErr, option_to_list};
 ghost use Rattle.std.specs.List.{filter};
 ghost use Rattle.request_queue.specs.Request.{insert};

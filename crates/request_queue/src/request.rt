@@ -1,3 +1,4 @@
+//! An item with the logical clock of its sender, and the order of such requests: by clock, and then by sender.
 ghost use Rattle.std.specs.Prelude.{◌≡◌, IfOk};
 ghost use Rattle.request_queue.specs.Request.{stands_before};
 

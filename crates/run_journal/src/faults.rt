@@ -1,3 +1,4 @@
+//! Why a journal refuses an event: spent, nothing to do, another frame than was sent, a crash, or want of memory.
 ghost use Rattle.std.specs.Prelude.{◌≡◌};
 
 use upd_base::{Frame, NoMemory};

@@ -1,3 +1,5 @@
+//! The recorded run as a data structure: its ghost fields keep that the events are a run of the plan, within its
+//! bound, and that the world is the one that they leave.
 ghost use Rattle.std.specs.Prelude.{ℕ, true, false, Some, None, ◌≡◌, ◌<◌, ◌≤◌, ◌∷◌, [], ◌++◌, List, length, reverse, IfOk, IfErr, IfSome, OnOk, OnErr, IsTrue, IsSome, ◌↔◌, slice_get, option_copied, is_some, map};
 ghost use Rattle.order_trait.specs.Runs.{Order};
 ghost use Rattle.upd_base.specs.Plan.{bound, planned, steps_of};
@@ -399,6 +401,3 @@ impl<O: Ordering> Journal<O> {
         true
     }
 }
-
-#[cfg(test)]
-mod tests;

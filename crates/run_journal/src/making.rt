@@ -1,3 +1,4 @@
+//! Steps of recording an event: room for the record is made before the world changes, so the two always agree.
 ghost use Rattle.std.specs.Prelude.{ℕ, true, ◌≡◌, ◌≢◌, ◌⊎◌, ◌<◌, ◌≤◌, ◌-◌, ◌∷◌, [], ◌++◌, length, map, set, IfOk, IfErr, OnOk, OnErr, slice_index_or, vec_len, vec_capacity};
 ghost use Rattle.group_run.specs.Run.{Events};
 ghost use Rattle.group_world.specs.Seen.{IsWorldOf, seen_by};

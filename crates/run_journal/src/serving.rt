@@ -1,3 +1,4 @@
+//! Whether every protocol that a plan names, at first or in a later change, is one that this type of module serves.
 ghost use Rattle.std.specs.Prelude.{ℕ, true, ◌≡◌, ◌<◌, IsTrue, length};
 ghost use Rattle.upd_base.specs.Plan.{steps_of};
 ghost use Rattle.group_run.specs.Laws.{ServesPlan};

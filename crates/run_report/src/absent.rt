@@ -1,3 +1,4 @@
+//! The accepted items that even the longest log lacks, and which of these are changes that another switch overtook.
 ghost use Rattle.std.specs.Prelude.{ℕ, true, ◌≡◌, ◌<◌, ◌++◌, ◌∷◌, [], IfOk, OnOk, All, Contains, flat_map, length, option_to_list, reverse};
 ghost use Rattle.upd_base.specs.Item.{is_message, origin_of};
 ghost use Rattle.upd_base.specs.declared.answer.Answer.TheVariants.{Accepted};

@@ -1,3 +1,4 @@
+//! The totals of a report: members, events, calls made of those planned, and the answers of each sort.
 ghost use Rattle.std.specs.Prelude.{◌≡◌, ◌++◌, OnOk, count_by, sum_by};
 ghost use Rattle.upd_base.specs.Plan.{steps_in};
 ghost use Rattle.run_journal.specs.Journal.{plan_of, past_of};

@@ -1,3 +1,4 @@
+//! The spelling of each line of a report: kinds, items, log entries, members, and the counts of the run.
 ghost use Rattle.std.specs.Prelude.{◌≡◌, ◌++◌, OnOk, IfOk, string_bytes, flat_map};
 ghost use Rattle.run_report.specs.Report.{kind_text, state_text, item_text, entry_line, member_line, run_line, answers_line, absence_text};
 

@@ -1,3 +1,4 @@
+//! A report put together: counts, then each member with its version and log, then the items that are absent.
 ghost use Rattle.std.specs.Prelude.{◌≡◌, ◌++◌, ◌<◌, IfOk, OnOk, if◌then◌else◌, [], flat_map};
 ghost use Rattle.member_rules.specs.Kept.{rules_of};
 ghost use Rattle.group_run.specs.Run.{log_in, version_in, kind_in, crashed_in};

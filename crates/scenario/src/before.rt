@@ -1,3 +1,4 @@
+//! Running counts while a scenario is read, for the limits of its calls and of its changes.
 ghost use Rattle.std.specs.Prelude.{◌≡◌, ◌<◌};
 ghost use Rattle.scenario.specs.Reading.{after};
 

@@ -14,6 +14,3 @@ pub use before::Before;
 pub use fault::{PathText, Reason, ScenarioFault};
 pub use op::Op;
 pub use root::{MAX_TEXT, read};
-
-#[cfg(test)]
-mod tests;

@@ -6,6 +6,3 @@ mod scenario_text;
 mod write;
 
 pub use scenario_text::generate;
-
-#[cfg(test)]
-mod tests;

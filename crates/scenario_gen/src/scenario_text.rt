@@ -1,3 +1,4 @@
+//! A scenario made from a seed; by contract its text is read as the plan of that seed.
 ghost use Rattle.std.specs.Prelude.{◌≡◌, ◌≤◌, Ok, IfOk};
 ghost use Rattle.scenario.specs.Reading.{reading};
 ghost use Rattle.scenario_gen.specs.Generate.{generated};

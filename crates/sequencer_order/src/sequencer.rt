@@ -1,3 +1,4 @@
+//! Total order broadcast by a fixed sequencer, as one member's module: what the sequencer numbers, all deliver.
 ghost use Rattle.upd_base.specs.Kind.{KindFits};
 ghost use Rattle.upd_base.specs.Item.{ItemFits};
 ghost use Rattle.upd_base.specs.declared.body.Body.TheVariants.{Ord};

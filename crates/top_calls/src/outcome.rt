@@ -1,3 +1,4 @@
+//! What is left when a command has ended: its status, the journal if there was a run, and the lines of the links.
 use module_binding::Module;
 use program_texts::Status;
 use run_journal::Journal;

@@ -1,3 +1,4 @@
+//! What a lock with history may guard: a value with a ghost list of entries, whose length can be asked.
 ghost use Rattle.std.specs.Prelude.{◌≡◌, List, length};
 
 /// A value that stands for a list of entries.

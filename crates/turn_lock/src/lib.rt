@@ -22,6 +22,3 @@ pub use rule::LockRule;
 pub use stage::Stage;
 pub use turn::Turn;
 pub use view::View;
-
-#[cfg(test)]
-mod tests;

@@ -1,3 +1,5 @@
+//! The ticket lock: turns go by ticket, each adds at most one entry, and the one pass into which all others were
+//! joined closes it, and knows which entries were added.
 ghost use Rattle.std.specs.Prelude.{◌≡◌, ℕ, ◌+◌, ◌-◌, ◌<◌, ◌≤◌, ◌%◌, ◌^◌, List, [], ◌∷◌, ◌++◌, length, IfOk, IfErr, Some, None};
 ghost use Rattle.turn_lock.specs.declared.pass.TheConstants.{PARTS};
 ghost use Rattle.turn_lock.specs.declared.stage.Stage.TheVariants.{Idle, Waits, Turns};
@@ -17,12 +19,17 @@ use atomic_table::{Refused, Seat, Table};
 use std::alloc::{AllocFailed, Global};
 use std::snapshot::Snapshot;
 use std::sync::Wait;
-use std::thread;
+use std::sync::atomic::{AtomicU64, Ordering};
+use std::{array, thread};
+
+/// How many bells there are. The tickets share them in turn, so that a turn that ends wakes few of those that wait.
+const BELLS: usize = 64;
 
 /// A lock round a value that stands for a list. Passes take turns on it, and each turn commits one entry or none.
 #[derive(Drop)]
 pub struct TurnLock<T: Kept> {
     table: Table<Option<T>, View<<T as Kept>::Entry>, Snapshot<T>, LockRule, Global>,
+    bells: [AtomicU64; BELLS],
     ghost shaped: { (table.shared.table_id.words ≡ 2) × (table.shared.table_id.slots ≡ 1) },
 }
 
@@ -51,7 +58,10 @@ impl<T: Kept> TurnLock<T> {
             }
         }
         match Table::new(alloc, &[0, 0], slots, &about) {
-            Ok((table, seat)) => Ok((TurnLock { table }, Pass { seat })),
+            Ok((table, seat)) => {
+                let bells = array::from_fn(|_| AtomicU64::new(0));
+                Ok((TurnLock { table, bells }, Pass { seat }))
+            }
             Err(Refused { mut slots }) => {
                 let first = slots.pop();
                 slots.destroy_empty();
@@ -142,7 +152,7 @@ impl<T: Kept> TurnLock<T> {
         ensures opening { IsPrefix (T.list (opening self)) (T.list result) }
         ensures own { own pass ≡ new_places (T.list (opening self)) (T.list result) }
     {
-        let TurnLock { table } = self;
+        let TurnLock { table, .. } = self;
         let Pass { seat } = pass;
         let mut closed = table.close_with(seat);
         let value = closed.take(0);
@@ -208,7 +218,10 @@ impl<T: Kept> TurnLock<T> {
         ensures view { seat.new.me ≡ (with_stage seat.old.me.0 (Turns ticket (T.list result)), (0, None) ∷ []) }
         ensures begins { IsPrefix seat.old.me.0.seen (T.list result) }
     {
+        let bell = self.bell(ticket);
         for _ in rt.forever() {
+            // The bell is looked at first, so that one which rings after the look is not slept through.
+            let rung = bell.load(Ordering::SeqCst);
             let served = self.table.shared.load::<Look>(seat, 1);
             if served == ticket {
                 match self.table.shared.exchange(seat, 0, None) {
@@ -216,8 +229,8 @@ impl<T: Kept> TurnLock<T> {
                     None => unreachable!(),
                 }
             }
-            let low = served % (1 << 32);
-            self.table.shared.park(rt, 1, low as u32);
+            let low = rung % (1 << 32);
+            bell.park(rt, low as u32);
         }
         unreachable!()
     }
@@ -236,7 +249,21 @@ impl<T: Kept> TurnLock<T> {
             None => {}
             Some(_) => unreachable!(),
         }
-        self.table.shared.fetch_add::<Finish>(seat, 1, 1);
-        self.table.shared.wake_all(1);
+        let finished = self.table.shared.fetch_add::<Finish>(seat, 1, 1);
+        self.wake(finished.wrapping_add(1));
+    }
+
+    // Wakes the pass that waits with this ticket. One that draws it later finds its turn come, and doesn't sleep.
+    fn wake(&self, ticket: u64) {
+        if ticket < self.table.shared.peek(0) {
+            let bell = self.bell(ticket);
+            bell.fetch_add(1, Ordering::SeqCst);
+            bell.wake_all();
+        }
+    }
+
+    // The bell that rings when this ticket is next.
+    fn bell(&self, ticket: u64) -> &AtomicU64 {
+        &self.bells[(ticket % BELLS as u64) as usize]
     }
 }

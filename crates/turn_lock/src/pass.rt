@@ -1,3 +1,4 @@
+//! A fractional permission to take turns, which knows a prefix of the history and which entries there are its own.
 ghost use Rattle.std.specs.Prelude.{◌≡◌, ◌<◌, ◌≤◌, true, length};
 ghost use Rattle.turn_lock.specs.Places.{Ascends, Ascends-prop};
 ghost use Rattle.turn_lock.specs.Stage.{is_settled, slots_at};

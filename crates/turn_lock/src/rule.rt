@@ -1,3 +1,4 @@
+//! The shared invariant of the lock: two counters, of tickets drawn and turns finished, and one slot for the value.
 use crate::kept::Kept;
 use crate::view::View;
 use atomic_table::TableRule;

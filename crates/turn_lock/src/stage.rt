@@ -1,3 +1,4 @@
+//! The states of a pass: idle, waiting for its ticket's turn, in its turn, or just joined with another pass.
 use std::collections::LinkedList;
 
 /// Where a pass stands in its turns.

@@ -1,3 +1,5 @@
+//! The atomic steps on the lock's shared state, each with its relation of what was before and after.
+
 // The kinds of step on the lock's table, by what each tells its caller.
 use crate::kept::Kept;
 use crate::view::View;

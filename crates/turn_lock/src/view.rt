@@ -1,3 +1,4 @@
+//! The ghost state of a pass: its parts, the prefix of the history it saw, the places it owns, and its stage.
 use crate::stage::Stage;
 use std::collections::LinkedList;
 

@@ -1,3 +1,5 @@
+//! The answers to an application's call, and which comes first where several apply.
+
 /// What a member answers to a call. The first that applies is answered, in the order of crashed, bad
 /// member, bad kind, full, version limit, and then accepted or done.
 #[derive(Clone, Copy, Debug, PartialEq, Eq)]

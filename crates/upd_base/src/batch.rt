@@ -1,3 +1,4 @@
+//! What one instance of consensus decides on: a set of items, kept in one canonical order so that a set is one list.
 ghost use Rattle.std.specs.Prelude.{◌≡◌, true, ◌↔◌, IfOk, IsTrue, length};
 ghost use Rattle.std.specs.List.{list_all};
 ghost use Rattle.upd_base.specs.Batch.{ascends, comes_first, batch, is_batch};

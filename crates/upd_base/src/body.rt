@@ -1,3 +1,4 @@
+//! The messages of all three ordering protocols, as modules of one version send them to each other.
 ghost use Rattle.std.specs.Prelude.{◌≡◌, ◌↔◌, IfOk, IsTrue};
 ghost use Rattle.upd_base.specs.Body.{body_fits, is_body};
 

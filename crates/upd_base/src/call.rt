@@ -1,3 +1,4 @@
+//! What an application may ask of a member: broadcast, replace the protocol, suspect, trust, or crash.
 ghost use Rattle.std.specs.Prelude.{◌≡◌, IfOk};
 
 use crate::kind::Kind;

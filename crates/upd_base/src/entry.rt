@@ -1,3 +1,4 @@
+//! A delivery as it stands in a log: the item, and which protocol version ordered it.
 use crate::item::Item;
 
 /// One item of a log, with the version that ordered it.

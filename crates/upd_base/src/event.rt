@@ -1,3 +1,4 @@
+//! The three atomic events of a run, of which a recorded run is a list: a call, a receipt, a release.
 use crate::answer::Answer;
 use crate::member::MemberId;
 

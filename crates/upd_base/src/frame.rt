@@ -1,3 +1,4 @@
+//! What travels on a link: a protocol's message, marked with the version that it belongs to.
 ghost use Rattle.std.specs.Prelude.{◌≡◌, IfOk, IsTrue, ◌↔◌};
 ghost use Rattle.upd_base.specs.Body.{body_fits};
 

@@ -1,3 +1,4 @@
+//! The units of total order broadcast: messages and protocol switches, ordered together, named by origin and number.
 ghost use Rattle.std.specs.Prelude.{◌≡◌, ◌↔◌, IfOk, IsTrue};
 ghost use Rattle.upd_base.specs.Item.{has_id, id_of, item_fits, number_of, origin_of, stands_before, switch_of};
 

@@ -1,3 +1,4 @@
+//! The three ordering protocols that a version may run: fixed sequencer, logical clocks, or consensus.
 ghost use Rattle.std.specs.Prelude.{◌≡◌, ◌↔◌, IsTrue};
 ghost use Rattle.upd_base.specs.Kind.{kind_fits};
 

@@ -37,6 +37,3 @@ pub use member::MemberId;
 pub use no_memory::NoMemory;
 pub use plan::Plan;
 pub use text::Text;
-
-#[cfg(test)]
-mod tests;

@@ -1,3 +1,4 @@
+//! A member's delivery log, append only; room reserved beforehand lets it grow without a request for memory.
 ghost use Rattle.std.specs.Prelude.{◌≡◌, ◌↔◌, ◌<◌, ◌≤◌, ◌+◌, IsTrue, [], ◌∷◌, ◌++◌, length, slice_get, Some, OnOk, OnErr};
 ghost use Rattle.upd_base.specs.Log.{Logged};
 

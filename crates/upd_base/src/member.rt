@@ -1,3 +1,4 @@
+//! A member's identity as a type: by its invariant it is below 7, whatever the size of the group.
 ghost use Rattle.std.specs.Prelude.{◌≡◌, ℕ, ◌<◌, ◌≤◌, IfSome, IfNone};
 
 use crate::limits::MAX_MEMBERS;

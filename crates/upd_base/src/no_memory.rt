@@ -1,3 +1,4 @@
+//! The error of a refused allocation, into which the allocator's own errors convert.
 ghost use Rattle.std.specs.Prelude.{◌≡◌};
 
 use std::alloc::{AllocError, AllocFailed};

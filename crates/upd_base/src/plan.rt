@@ -1,3 +1,4 @@
+//! The input of a run, checked once against all limits, with the bound on events that follows from its counts.
 ghost use Rattle.std.specs.Prelude.{◌≡◌, true, ◌+◌, ◌*◌, ◌≤◌, ◌<◌, ◌^◌, ◌-◌, min, map, Some, IfOk, sum_by, length, slice_get};
 ghost use Rattle.std.specs.List.{list_all};
 ghost use Rattle.upd_base.specs.Plan.{bodies_bound, bound, call_fits, change_count, changes_in, is_plan, plan_of, plan_where_it_fits, planned, send_count, sends_in, step_fits, steps_in, steps_of, Planned};

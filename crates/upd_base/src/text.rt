@@ -1,3 +1,4 @@
+//! A message's payload, shared and never changed, so that a copy takes no room for its bytes.
 ghost use Rattle.std.specs.Prelude.{◌≡◌, true, IfOk};
 ghost use Rattle.std.specs.List.{list_all};
 ghost use Rattle.upd_base.specs.Text.{is_payload, is_printable, payload};

@@ -1,3 +1,4 @@
+//! A sink with fault injection: short writes, failures at listed writes, and what was written kept for comparison.
 ghost use Rattle.std.specs.Prelude.{◌≡◌, ◌<◌, ◌≤◌, ◌+◌, ◌^◌, ◌-◌, [], min, Some, IfOk};
 ghost use Rattle.upd_base.specs.Edge.{Writes, HasCause};
 ghost use Rattle.upd_fakes.specs.Mem.{FailsAsListed};

@@ -1,3 +1,4 @@
+//! A source with fault injection: short reads of known bytes, and failures at listed reads.
 ghost use Rattle.std.specs.Prelude.{◌≡◌, ◌+◌, ◌<◌, ◌≤◌, ◌↔◌, ◌^◌, ◌-◌, min, ℕ, [], take, drop, length, Some, IfOk, IsErrOf, Contains, vec_len};
 ghost use Rattle.upd_base.specs.Edge.{Reads, HasCause};
 ghost use Rattle.upd_fakes.specs.Mem.{FailsAsListed};

@@ -1,3 +1,4 @@
+//! The copying that the sources in memory share; it gives no byte only at the end or into no room.
 ghost use Rattle.std.specs.Prelude.{◌≡◌, ◌<◌, ◌≤◌, [], take, length};
 
 /// Copies the front of what is left, at most `piece` bytes.

@@ -1,3 +1,4 @@
+//! The sink of tests in which writing is not what fails: it takes each write whole unless memory is refused.
 ghost use Rattle.std.specs.Prelude.{◌≡◌, ◌<◌, [], Some};
 ghost use Rattle.upd_base.specs.Edge.{Writes, HasCause};
 

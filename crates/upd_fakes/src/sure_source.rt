@@ -1,3 +1,4 @@
+//! The source of tests in which reading is not what fails: it fills the room while bytes are left.
 ghost use Rattle.std.specs.Prelude.{◌≡◌, ◌<◌, ◌≤◌, [], Some, drop, vec_len, IsOk};
 ghost use Rattle.upd_base.specs.Edge.{Reads, HasCause};
 

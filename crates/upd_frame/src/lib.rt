@@ -13,6 +13,3 @@ pub use laws::spellings;
 pub use progress::{Stage, read_on};
 pub use reading::{decode, decode_front};
 pub use writing::encode;
-
-#[cfg(test)]
-mod tests;

@@ -1,3 +1,4 @@
+//! The byte that tells which protocol message a frame carries: 1 to 10, and any other is no tag.
 ghost use Rattle.std.specs.Prelude.{◌≡◌};
 ghost use Rattle.upd_frame.specs.Reading.{tag_of};
 

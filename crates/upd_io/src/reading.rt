@@ -1,3 +1,4 @@
+//! Reading to the end with a limit; one byte past it is taken, to tell a text at the limit from one that is too long.
 ghost use Rattle.std.specs.Prelude.{◌≡◌, ◌<◌, ◌+◌, ◌^◌, ◌≤◌, IfOk};
 ghost use Rattle.upd_base.specs.Edge.{HasCause};
 ghost use Rattle.upd_io.specs.Whole.{ReadUpTo, TakesAtMost};

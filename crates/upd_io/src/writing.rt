@@ -1,3 +1,4 @@
+//! Writing a text whole over a sink that may take less at a time; a failure leaves a proper prefix.
 ghost use Rattle.std.specs.Prelude.{◌≡◌, OnOk, OnErr, is_some};
 ghost use Rattle.std.specs.Io.KnownBytes.{Appends};
 ghost use Rattle.upd_base.specs.Edge.{HasCause};

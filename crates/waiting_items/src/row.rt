@@ -1,3 +1,4 @@
+//! A persistent list of waiting items: copies share it, and a change makes a new one.
 ghost use Rattle.std.specs.Prelude.{◌≡◌, ◌≤◌, ◌==◌, true, IfOk, OnOk, ◌++◌, ◌∷◌, drop, length, take};
 ghost use Rattle.std.specs.List.{list_any};
 ghost use Rattle.upd_base.specs.Item.{origin_of};

@@ -1,3 +1,5 @@
+//! A persistent ordered set of items that wait for a decision, from which batches are taken: one shared row for each
+//! origin.
 ghost use Rattle.std.specs.Prelude.{ℕ, All, true, false, ◌≡◌, ◌<◌, ◌==◌, ◌↔◌, [], IfOk, IsTrue, OnOk, OnErr, length, map, replicate, set};
 ghost use Rattle.std.specs.List.{list_all};
 ghost use Rattle.upd_base.specs.Item.{ItemFits};

@@ -1,7 +1,0 @@
-use Rattle.std.proofs.Common.{◌≡◌}
-use Rattle.turn_lock.specs.Pass.{parts}
-use Rattle.live_group.specs.SharedGroup.{IsPassOf}
-use Rattle.live_group.proofs.tests.threads.make_calls.Given as goal
-
-abbrev pub invariant-loop : goal.invariant-loop
-invariant-loop g l = record { of : IsPassOf l.group l.pass; parts : parts l.pass ≡ parts l.initial.pass }
