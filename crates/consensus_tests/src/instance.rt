@@ -1,42 +1,15 @@
 //! One member in one instance: what it sends where coordinators are suspected, and a decision.
-ghost use Rattle.std.specs.Prelude.{ℕ, ◌≡◌, ◌<◌, ◌≤◌, true, IfOk};
+ghost use Rattle.std.specs.Prelude.{ℕ, ◌≡◌, ◌<◌, ◌≤◌, IfOk};
 ghost use Rattle.upd_base.specs.Body.{BodyFits};
-ghost use Rattle.ct_consensus.specs.Ballot.{all_fit};
 ghost use Rattle.ct_consensus.specs.Moves.{TrustsItself};
 ghost use Rattle.ct_consensus.specs.Instance.{members_of, me_of};
 
+use crate::given::{batch, decision, member};
 use ct_consensus::Instance;
 use order_trait::Outbox;
 use std::alloc::Global;
 use std::test::*;
-use upd_base::{Batch, Body, Item, Kind, MemberId};
-
-fn member(id: u8) -> Result<MemberId, Fail>
-    ensures { IfOk result (λ m. m ≡ id) }
-{
-    match MemberId::new(id) {
-        Some(member) => Ok(member),
-        None => Err("a member")?,
-    }
-}
-
-fn batch(alloc: Global, n: u8) -> Result<Batch, Fail>
-    ensures { IfOk result (λ b. all_fit n b ≡ true) }
-{
-    let mut items = Vec::new(alloc);
-    items.push(Item::Switch {
-        origin: member(0)?,
-        number: 4,
-        kind: Kind::Lamport,
-    })?;
-    let Some(batch) = Batch::new(items) else {
-        return Err("a batch")?;
-    };
-    if !batch.fits(n) {
-        return Err("fits")?;
-    }
-    Ok(batch)
-}
+use upd_base::Body;
 
 fn estimate(alloc: Global, n: u8, round: u64) -> Result<Body, Fail>
     ensures { IfOk result (λ body. BodyFits n body) }
@@ -55,15 +28,6 @@ fn proposal(alloc: Global, n: u8) -> Result<Body, Fail>
     Ok(Body::Prop {
         instance: 1,
         round: 1,
-        batch: batch(alloc, n)?,
-    })
-}
-
-fn decision(alloc: Global, n: u8) -> Result<Body, Fail>
-    ensures { IfOk result (λ body. BodyFits n body) }
-{
-    Ok(Body::Decide {
-        instance: 1,
         batch: batch(alloc, n)?,
     })
 }
@@ -120,25 +84,10 @@ fn one_suspected(rt: HostRuntime) -> Result<(), Fail> {
     assert!(rt; out.drain_first().is_none());
     assert_eq!(rt; instance.round(), 2);
     assert!(rt; instance.decided().is_none());
-    Ok(())
-}
-
-#[test]
-fn two_suspected(rt: HostRuntime) -> Result<(), Fail> {
-    let alloc = rt.alloc();
-    let mut out = Outbox::new(alloc);
-    let row = [true, true, false, false, false, false, false];
-    let instance = started(alloc, 3, 2, &row, &mut out)?;
-    for _ in 0..3 {
-        let _sent = out.drain_first();
+    match instance.copy(alloc) {
+        Ok(copy) => assert_eq!(rt; copy.round(), 2),
+        Err(_) => Err("memory")?,
     }
-    assert_eq!(rt; out.drain_first(), Some((member(1)?, reply(2, false))));
-    assert_eq!(rt;
-        out.drain_first(),
-        Some((member(2)?, estimate(alloc, 3, 3)?))
-    );
-    assert!(rt; out.drain_first().is_none());
-    assert_eq!(rt; instance.round(), 3);
     Ok(())
 }
 
@@ -214,18 +163,5 @@ fn suspected_later(rt: HostRuntime) -> Result<(), Fail> {
     );
     assert!(rt; out.drain_first().is_none());
     assert_eq!(rt; instance.round(), 2);
-    Ok(())
-}
-
-#[test]
-fn copy_of_one_suspected(rt: HostRuntime) -> Result<(), Fail> {
-    let alloc = rt.alloc();
-    let mut out = Outbox::new(alloc);
-    let row = [true, false, false, false, false, false, false];
-    let instance = started(alloc, 3, 2, &row, &mut out)?;
-    match instance.copy(alloc) {
-        Ok(copy) => assert_eq!(rt; copy.round(), 2),
-        Err(_) => Err("memory")?,
-    }
     Ok(())
 }

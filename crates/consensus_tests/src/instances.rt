@@ -1,49 +1,9 @@
 //! A member of one that starts instances by number, decides them and copies them.
-ghost use Rattle.std.specs.Prelude.{◌≡◌, true, IfOk};
-ghost use Rattle.upd_base.specs.Body.{BodyFits};
-ghost use Rattle.ct_consensus.specs.Ballot.{all_fit};
-
+use crate::given::{batch, decision, member};
 use instance_table::Instances;
 use order_trait::Outbox;
-use std::alloc::Global;
 use std::test::*;
-use upd_base::{Batch, Body, Item, Kind, MemberId};
-
-fn member(id: u8) -> Result<MemberId, Fail>
-    ensures { IfOk result (λ m. m ≡ id) }
-{
-    match MemberId::new(id) {
-        Some(member) => Ok(member),
-        None => Err("a member")?,
-    }
-}
-
-fn batch(alloc: Global) -> Result<Batch, Fail>
-    ensures { IfOk result (λ b. all_fit 1 b ≡ true) }
-{
-    let mut items = Vec::new(alloc);
-    items.push(Item::Switch {
-        origin: member(0)?,
-        number: 4,
-        kind: Kind::Lamport,
-    })?;
-    let Some(batch) = Batch::new(items) else {
-        return Err("a batch")?;
-    };
-    if !batch.fits(1) {
-        return Err("fits")?;
-    }
-    Ok(batch)
-}
-
-fn decision(alloc: Global) -> Result<Body, Fail>
-    ensures { IfOk result (λ body. BodyFits 1 body) }
-{
-    Ok(Body::Decide {
-        instance: 1,
-        batch: batch(alloc)?,
-    })
-}
+use upd_base::Body;
 
 #[test]
 fn one_member(rt: HostRuntime) -> Result<(), Fail> {
@@ -52,7 +12,11 @@ fn one_member(rt: HostRuntime) -> Result<(), Fail> {
     let me = member(0)?;
     let mut instances = Instances::new(alloc, 1, me);
     assert_eq!(rt; instances.round(1), 0);
-    assert!(rt; instances.start(alloc, 1, batch(alloc)?, &mut out).is_ok());
+    assert!(rt;
+        instances
+            .start(alloc, 1, batch(alloc, 1)?, &mut out)
+            .is_ok()
+    );
     assert!(rt; out.drain_first().is_some());
     assert_eq!(rt; instances.round(1), 1);
     let reply = Body::Reply {
@@ -67,7 +31,7 @@ fn one_member(rt: HostRuntime) -> Result<(), Fail> {
     };
     assert!(rt;
         instances
-            .decide(alloc, 1, me, &decision(alloc)?, &mut out)
+            .decide(alloc, 1, me, &decision(alloc, 1)?, &mut out)
             .is_ok()
     );
     assert!(rt; out.drain_first().is_some());

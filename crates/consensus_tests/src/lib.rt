@@ -5,6 +5,8 @@
 #[cfg(test)]
 mod delivery;
 #[cfg(test)]
+mod given;
+#[cfg(test)]
 mod instance;
 #[cfg(test)]
 mod instances;

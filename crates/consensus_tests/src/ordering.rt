@@ -2,6 +2,7 @@
 ghost use Rattle.std.specs.Prelude.{◌≡◌, ◌≤◌, ◌<◌};
 ghost use Rattle.consensus_order.specs.ConsensusOrder.{seat_of};
 
+use crate::given::member;
 use consensus_order::ConsensusOrder;
 use order_trait::{Ordering, Outbox};
 use std::alloc::Global;
@@ -19,13 +20,6 @@ struct Node {
     ghost seated: { me < members },
     ghost counted: { (seat_of part).members ≡ members },
     ghost placed: { (seat_of part).me ≡ me },
-}
-
-fn member(id: u8) -> Result<MemberId, Fail> {
-    match MemberId::new(id) {
-        Some(member) => Ok(member),
-        None => Err("a member")?,
-    }
 }
 
 impl Node {

@@ -69,39 +69,3 @@ fn by_origin_and_number(rt: HostRuntime) -> Result<(), Fail> {
     assert!(rt; copy.is_empty());
     Ok(())
 }
-
-#[test]
-fn rows_of_three_origins(rt: HostRuntime) -> Result<(), Fail> {
-    let alloc = rt.alloc();
-    let Ok(mut waiting) = Waiting::new(alloc) else {
-        return Err("memory")?;
-    };
-    put(alloc, &mut waiting, item(6, 1)?)?;
-    put(alloc, &mut waiting, item(0, 2)?)?;
-    put(alloc, &mut waiting, item(3, 9)?)?;
-    put(alloc, &mut waiting, item(0, 1)?)?;
-    put(alloc, &mut waiting, item(3, 4)?)?;
-    let Ok(Some(batch)) = waiting.first_batch(alloc) else {
-        return Err("a batch")?;
-    };
-    let five = [
-        item(0, 1)?,
-        item(0, 2)?,
-        item(3, 4)?,
-        item(3, 9)?,
-        item(6, 1)?,
-    ];
-    assert!(rt; batch.items() == five.as_slice());
-    take_out(alloc, &mut waiting, item(3, 9)?)?;
-    take_out(alloc, &mut waiting, item(3, 4)?)?;
-    let Ok(Some(batch)) = waiting.first_batch(alloc) else {
-        return Err("a batch")?;
-    };
-    let three = [item(0, 1)?, item(0, 2)?, item(6, 1)?];
-    assert!(rt; batch.items() == three.as_slice());
-    put(alloc, &mut waiting, item(3, 5)?)?;
-    take_out(alloc, &mut waiting, item(0, 1)?)?;
-    take_out(alloc, &mut waiting, item(0, 2)?)?;
-    assert_eq!(rt; first(alloc, &waiting)?, Some(item(3, 5)?));
-    Ok(())
-}

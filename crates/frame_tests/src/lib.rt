@@ -7,3 +7,5 @@ mod carriage;
 mod encoding;
 #[cfg(test)]
 mod feed;
+#[cfg(test)]
+mod lines;

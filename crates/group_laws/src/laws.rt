@@ -1,4 +1,4 @@
-//! Safety, liveness and termination of the run in a journal: total order, delivery of all, and a bound on its events.
+//! The theorem at a journal: total order, delivery of all where the run is settled and quiet, and the bound on its events.
 ghost use Rattle.std.specs.Prelude.{◌≡◌, ◌≤◌, length};
 ghost use Rattle.upd_base.specs.Plan.{bound};
 ghost use Rattle.member_rules.specs.Kept.{rules_of};

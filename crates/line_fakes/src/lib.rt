@@ -13,6 +13,3 @@ pub use line_fail::{LineFail, Way};
 pub use mem_line::MemLine;
 pub use mem_lines::MemLines;
 pub use sure_lines::{SureLine, SureLines};
-
-#[cfg(test)]
-mod tests;

@@ -20,8 +20,6 @@ enum Event {
     Crash,
     /// It takes the next frame that it sent to itself.
     Own,
-    /// It takes a frame of version 1 that no sequencer sends, from itself.
-    Early,
     /// Member 1 asks it in version 0 to order a message of this number.
     Ask(u32),
     /// Member 1 gives in version 1 this place to the message of this origin and number.
@@ -64,10 +62,6 @@ fn brought(alloc: Global, event: Event, out: &mut Sent) -> Result<(u8, Frame), F
             let body = Body::Ord { place, item };
             Ok((1, Frame { version: 1, body }))
         }
-        Event::Early => {
-            let body = Body::Ack { stamp: 1 };
-            Ok((0, Frame { version: 1, body }))
-        }
         _ => Ok((0, own_frame(out)?)),
     }
 }
@@ -108,7 +102,7 @@ fn make(
             release(alloc, one, out)?;
             Ok(None)
         }
-        Event::Own | Event::Early | Event::Ask(_) | Event::Order(..) => {
+        Event::Own | Event::Ask(_) | Event::Order(..) => {
             let (from, frame) = brought(alloc, event, out)?;
             take(alloc, one, n, from, frame, out)?;
             Ok(None)
@@ -169,40 +163,6 @@ fn settled(sequencer: u8, entries: usize, accepted: u32) -> Result<Readings, Fai
         ready: false,
         would_fill: false,
     })
-}
-
-#[test]
-fn events_alone(rt: HostRuntime) -> Result<(), Fail> {
-    let alloc = rt.alloc();
-    let mut out = Sent::new(alloc);
-    let mut one = started(alloc, 1)?;
-    let before = [
-        (Event::Send, Some(Answer::Accepted(0))),
-        (Event::Change(0), Some(Answer::Accepted(1))),
-        (Event::Send, Some(Answer::Accepted(2))),
-        (Event::Own, None),
-        (Event::Own, None),
-        (Event::Own, None),
-        (Event::Early, None),
-        (Event::Own, None),
-        (Event::Suspect(0), Some(Answer::BadMember)),
-    ];
-    make_all(alloc, &mut one, 1, before.as_slice(), &mut out)?;
-    assert!(rt; !one.ready());
-    assert!(rt; delivered(&one, [(0, 0, 0, true)].as_slice()));
-    let after = [
-        (Event::Own, None),
-        (Event::Own, None),
-        (Event::Release, None),
-        (Event::Own, None),
-        (Event::Own, None),
-    ];
-    make_all(alloc, &mut one, 1, after.as_slice(), &mut out)?;
-    assert_eq!(rt; says(&one), settled(0, 3, 3)?);
-    let log = [(0, 0, 0, true), (0, 0, 1, false), (1, 0, 2, true)];
-    assert!(rt; delivered(&one, log.as_slice()));
-    assert!(rt; out.drain_first().is_none());
-    Ok(())
 }
 
 #[test]

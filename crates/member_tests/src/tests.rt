@@ -205,29 +205,6 @@ fn refusals(rt: HostRuntime) -> Result<(), Fail> {
 }
 
 #[test]
-fn a_frame_of_the_next_version(rt: HostRuntime) -> Result<(), Fail> {
-    let alloc = rt.alloc();
-    let mut out = Sent::new(alloc);
-    let mut one = started(alloc, 1)?;
-    let early = Frame {
-        version: 1,
-        body: Body::Ack { stamp: 1 },
-    };
-    receive(alloc, &mut one, early, &mut out)?;
-    assert!(rt; !one.ready());
-    if !one.crashed() {
-        assert!(rt; !one.release(alloc, &mut out)?);
-    }
-    replace(alloc, &mut one)?;
-    assert!(rt; one.ready());
-    if !one.crashed() {
-        assert!(rt; one.release(alloc, &mut out)?);
-    }
-    assert!(rt; !one.ready());
-    Ok(())
-}
-
-#[test]
 fn prepared_and_committed(rt: HostRuntime) -> Result<(), Fail> {
     let alloc = rt.alloc();
     let mut one = started(alloc, 1)?;
@@ -246,49 +223,6 @@ fn prepared_and_committed(rt: HostRuntime) -> Result<(), Fail> {
     assert_eq!(rt; (to, frame.version), (member(0)?, 0));
     assert!(rt; matches!(&frame.body, Body::Ask { .. }));
     assert!(rt; sent.drain_first().is_none());
-    Ok(())
-}
-
-/// The place at which frames order an item, where they are one order.
-fn place_of(sent: &[(MemberId, Frame)]) -> Option<u64> {
-    if sent.len() != 1 {
-        return None;
-    }
-    match &sent[0].1.body {
-        Body::Ord { place, .. } => Some(*place),
-        _ => None,
-    }
-}
-
-/// Prepares the receipt of a frame: whether it answers nothing, and the place at which it orders an item.
-fn prepared_receipt(alloc: Global, one: &mut One, frame: Frame) -> Result<(bool, Option<u64>), Fail>
-    requires { (kept_by one.old).members ≡ 1 }
-{
-    if one.crashed() {
-        return Err("up")?;
-    }
-    if !frame.fits(1) {
-        return Err("a frame that fits")?;
-    }
-    if !frame.body.counts_from_one() {
-        return Err("a body that counts")?;
-    }
-    let from = member(0)?;
-    let input = Input::Receive { from, frame };
-    let prepared = one.prepare(alloc, &input)?;
-    Ok((prepared.answer().is_none(), place_of(prepared.sent())))
-}
-
-#[test]
-fn a_prepared_receipt(rt: HostRuntime) -> Result<(), Fail> {
-    let alloc = rt.alloc();
-    let mut out = Sent::new(alloc);
-    let mut one = started(alloc, 1)?;
-    assert_eq!(rt; send(alloc, &mut one, &mut out)?, Answer::Accepted(0));
-    let Some((_, frame)) = out.drain_first() else {
-        return Err("a frame")?;
-    };
-    assert_eq!(rt; prepared_receipt(alloc, &mut one, frame)?, (true, Some(1)));
     Ok(())
 }
 

@@ -8,6 +8,3 @@ mod texts;
 pub use run_end::End;
 pub use status::Status;
 pub use texts::{checked_text, refusal_text, run_text};
-
-#[cfg(test)]
-mod tests;

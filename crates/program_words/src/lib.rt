@@ -4,6 +4,3 @@
 mod words;
 
 pub use words::{Command, Form, Generate, LineKind, Rehearse, Run, command_of, run_of};
-
-#[cfg(test)]
-mod tests;

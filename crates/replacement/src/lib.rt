@@ -7,6 +7,3 @@ mod repl;
 
 pub use act::Act;
 pub use repl::Repl;
-
-#[cfg(test)]
-mod tests;

@@ -68,6 +68,11 @@ fn the_first_line_that_is_refused(rt: HostRuntime) -> Result<(), Fail> {
         ),
         (
             "",
+            "journal 1\nmembers 2\nfirst lamport\nthreads 1\nthread 1000\n",
+            "line 6",
+        ),
+        (
+            "",
             "journal 1\nmembers 2\nfirst lamport\nthreads 1\nthread 1001\n",
             "line 5",
         ),

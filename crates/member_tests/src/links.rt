@@ -1,4 +1,5 @@
-use super::*;
+//! The links of a group, first in, first out.
+use fifo_link::Links;
 use std::test::Fail;
 use upd_base::{Body, Frame, MemberId};
 

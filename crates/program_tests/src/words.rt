@@ -1,4 +1,5 @@
-use crate::{Command, Form, Generate, LineKind, Rehearse, Run, command_of, run_of};
+//! Words of the command line, and what they ask for.
+use program_words::{Command, Form, Generate, LineKind, Rehearse, Run, command_of, run_of};
 use std::alloc::Global;
 use std::test::*;
 

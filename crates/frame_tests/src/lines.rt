@@ -1,4 +1,5 @@
-use super::*;
+//! Lines in memory: faithful ones, ones that fail at a listed call, and ones that lie.
+use line_fakes::{LieLines, LineFail, MemLines, SureLines, Way};
 use std::test::Fail;
 use upd_base::{EdgeFault, MemberId};
 use upd_lines::{Line, LineMaker};

@@ -1,4 +1,5 @@
-use super::*;
+//! What a member issues and has not delivered, and a switch that ends a version.
+use replacement::{Act, Repl};
 use std::alloc::Global;
 use std::test::Fail;
 use upd_base::{Item, Kind, MemberId, Text};

@@ -1,5 +1,6 @@
-use crate::{End, Status, checked_text, refusal_text, run_text};
+//! The texts of a run without events, and that of a refusal.
 use module_binding::Module;
+use program_texts::{End, Status, checked_text, refusal_text, run_text};
 use program_words::Form;
 use run_journal::{Journal, serves};
 use std::alloc::Global;
