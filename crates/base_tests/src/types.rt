@@ -48,7 +48,7 @@ fn batches(rt: HostRuntime) -> Result<(), Fail> {
         version: 1,
         body: Body::Decide { instance: 1, batch },
     };
-    assert!(rt; decision.copy(alloc)?.is_same(&decision));
+    assert!(rt; decision.copy(alloc)? == decision);
     assert!(rt; decision.fits(2) && decision.body.counts_from_one());
     Ok(())
 }

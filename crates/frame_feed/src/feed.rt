@@ -10,7 +10,7 @@ ghost use Rattle.frame_feed.specs.Fed.{with_text};
 
 use std::alloc::Global;
 use std::marker::Model;
-use upd_base::{Frame, NoMemory};
+use upd_base::{Frame, NoMemory, is_printable};
 use upd_frame::{FrameFault, Stage, decode_front, read_on};
 
 /// Below so many taken bytes it isn't worth to move those that are left.
@@ -62,12 +62,6 @@ fn trim(bytes: &mut Vec<u8>, taken: usize) -> usize
     }
     drop_front(bytes, taken);
     0
-}
-
-fn is_printable(byte: u8) -> bool
-    ensures { result ≡ is_printable byte }
-{
-    0x20 <= byte && byte <= 0x7e
 }
 
 fn all_printable(bytes: &[u8]) -> bool

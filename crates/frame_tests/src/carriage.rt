@@ -90,17 +90,17 @@ fn frames_come(rt: HostRuntime) -> Result<(), Fail> {
     let came = twice(alloc, &mut SureLines::new(alloc), &small)?
         .ok()
         .ok_or("no frame")?;
-    assert!(rt; came.frame.is_same(&small));
+    assert!(rt; came.frame == small);
     assert_eq!(rt; came.bytes, 12);
     let came = twice(alloc, &mut SureLines::new(alloc), &large)?
         .ok()
         .ok_or("no frame")?;
-    assert!(rt; came.frame.is_same(&large));
+    assert!(rt; came.frame == large);
     assert_eq!(rt; came.bytes, 8_476);
     for piece in [1, 3, 1_000, 5_000] {
         let mut lines = MemLines::new(alloc, piece, vec![in alloc]?);
         let came = twice(alloc, &mut lines, &large)?.ok().ok_or("no frame")?;
-        assert!(rt; came.frame.is_same(&large), "pieces of {piece}");
+        assert!(rt; came.frame == large, "pieces of {piece}");
         assert_eq!(rt; came.bytes, 8_476, "pieces of {piece}");
     }
     Ok(())

@@ -51,7 +51,7 @@ fn the_worked_frame(rt: HostRuntime) -> Result<(), Fail> {
     let bytes = encode(alloc, &frame)?;
     assert_eq!(rt; bytes, asks_a(alloc)?);
     let again = decode(alloc, bytes.as_slice()).ok().ok_or("a frame")?;
-    assert!(rt; again.is_same(&frame));
+    assert!(rt; again == frame);
     Ok(())
 }
 
@@ -124,7 +124,7 @@ fn read_again(alloc: Global, version: u16, body: Body) -> Result<usize, Fail> {
     let frame = Frame { version, body };
     let bytes = encode(alloc, &frame)?;
     let again = decode(alloc, bytes.as_slice()).ok().ok_or("a frame")?;
-    if again.is_same(&frame) {
+    if again == frame {
         Ok(bytes.len())
     } else {
         Ok(0)

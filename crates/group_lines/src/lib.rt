@@ -12,4 +12,5 @@ mod visits;
 
 pub use bringing::bring;
 pub use finishing::{finish, finish_from};
+pub use links::link_at;
 pub use ran::Ran;

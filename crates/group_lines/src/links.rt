@@ -15,7 +15,7 @@ pub(crate) fn member_at(i: u8) -> MemberId
 }
 
 /// The link whose line stands at this place, among those of so many members.
-pub(crate) fn link_at(members: u8, place: usize) -> (MemberId, MemberId)
+pub fn link_at(members: u8, place: usize) -> (MemberId, MemberId)
     requires few { members ≤ 7 }
     requires place { place < members * members }
     ensures { LinkStands members result.0 result.1 place }

@@ -2,7 +2,7 @@
 use Rattle.std.specs.Prelude.{ℕ, List, [], ◌∷◌, ◌++◌, length, codes, decimal, flat_map, map}
 use Rattle.upd_base.specs.Plan.{Planned}
 use Rattle.upd_base.specs.declared.kind.Kind.{Kind}
-use Rattle.upd_base.specs.declared.kind.Kind.TheVariants.{Sequencer, Lamport, Consensus}
+use Rattle.upd_base.specs.Kind.{kind_text}
 use Rattle.upd_base.specs.declared.call.Call.{Call}
 use Rattle.upd_base.specs.declared.call.Call.TheVariants.{Send, Change, Suspect, Trust, Crash}
 use Rattle.upd_base.specs.declared.call.Step.{Step}
@@ -14,11 +14,6 @@ use Rattle.upd_base.specs.declared.event.Event.TheVariants.{Call as CallEvent, R
 -- a line, without its end
 abbrev pub Line : Type 0
 Line = List ℕ
-
-unfoldable pub kind_text : Kind → List ℕ
-kind_text (Sequencer m) = codes "sequencer " ++ decimal m
-kind_text Lamport = codes "lamport"
-kind_text Consensus = codes "consensus"
 
 unfoldable pub call_text : Call → List ℕ
 call_text (Send text) = codes "send " ++ text

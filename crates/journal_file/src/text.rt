@@ -1,12 +1,12 @@
 //! Writing a journal: a line for each part of the plan and each event, in the one spelling that the reader takes.
-ghost use Rattle.std.specs.Prelude.{◌≡◌, ◌++◌, ◌<◌, ◌≤◌, All, IfOk, OnOk, flat_map, length, map, string_bytes};
+ghost use Rattle.std.specs.Prelude.{◌≡◌, ◌++◌, ◌<◌, ◌≤◌, All, IfOk, OnOk, length, string_bytes};
 ghost use Rattle.upd_base.specs.declared.event.Event.TheVariants.{Call as CallEvent};
 ghost use Rattle.upd_base.specs.Plan.{steps_of};
 ghost use Rattle.run_journal.specs.Journal.{plan_of, events_of};
 ghost use Rattle.journal_file.specs.declared.limits.TheConstants.{MAX_TEXT};
 ghost use Rattle.journal_file.specs.Grammar.{AnswerFits, EventFits, IsNumber, TextFits};
 ghost use Rattle.journal_file.specs.Reading.{HasPayloads, IsJournalText};
-ghost use Rattle.journal_file.specs.Text.{answer_text, call_text, ended, event_line, event_lines, events_line, first_line, journal_text, kind_text, members_line, plan_lines, step_line, text_of, thread_line, thread_lines, threads_line};
+ghost use Rattle.journal_file.specs.Text.{answer_text, call_text, ended, event_line, event_lines, events_line, first_line, journal_text, members_line, plan_lines, step_line, text_of, thread_line, thread_lines, threads_line};
 
 use order_trait::Ordering;
 use run_journal::Journal;
@@ -69,7 +69,7 @@ fn put_head(
 ) -> Result<(), AllocError>
     ensures { OnOk result (out.new.items ≡ out.old.items ++ (ended (members_line members) ++ ended (first_line first) ++ ended (threads_line threads))) }
 {
-    let kind = kind_text(alloc, first)?;
+    let kind = first.text(alloc)?;
     let head = format!(in alloc; "members {members}\nfirst {kind}\nthreads {threads}\n")?;
     put(out, head.as_str())
 }
@@ -119,22 +119,11 @@ fn put_call(alloc: Global, out: &mut Vec<u8>, call: &Call) -> Result<(), AllocEr
         }
         Call::Change(kind) => {
             put(out, "change ")?;
-            put(out, kind_text(alloc, *kind)?.as_str())
+            put(out, kind.text(alloc)?.as_str())
         }
         Call::Suspect(who) => put(out, format!(in alloc; "suspect {who}")?.as_str()),
         Call::Trust(who) => put(out, format!(in alloc; "trust {who}")?.as_str()),
         Call::Crash => put(out, "crash"),
-    }
-}
-
-#[tactic(auto, unfolding(crate::specs::Text::kind_text))]
-fn kind_text(alloc: Global, kind: Kind) -> Result<String, AllocError>
-    ensures { IfOk result (λ s. string_bytes s ≡ kind_text kind) }
-{
-    match kind {
-        Kind::Sequencer(member) => format!(in alloc; "sequencer {}", member.get()),
-        Kind::Lamport => String::from_str(alloc, "lamport"),
-        Kind::Consensus => String::from_str(alloc, "consensus"),
     }
 }
 

@@ -4,13 +4,13 @@ ghost use Rattle.std.specs.Option.{IsSomeAnd};
 ghost use Rattle.std.specs.List.{list_all, position};
 ghost use Rattle.std.specs.Char.{is_ascii_digit};
 ghost use Rattle.std.specs.Str.Parse.{digits_value};
-ghost use Rattle.upd_base.specs.Kind.{KindFits};
+ghost use Rattle.upd_base.specs.Kind.{KindFits, kind_text};
 ghost use Rattle.upd_base.specs.declared.kind.Kind.{Kind};
 ghost use Rattle.upd_base.specs.declared.answer.Answer.{Answer};
 ghost use Rattle.upd_base.specs.declared.call.Call.{Call};
 ghost use Rattle.upd_base.specs.Plan.{call_fits};
 ghost use Rattle.upd_base.specs.declared.limits.TheConstants.{MAX_MEMBERS};
-ghost use Rattle.journal_file.specs.Text.{answer_text, call_text, kind_text};
+ghost use Rattle.journal_file.specs.Text.{answer_text, call_text};
 ghost use Rattle.journal_file.specs.Grammar.{AnswerFits, IsNumber, TextFits};
 ghost use Rattle.journal_file.specs.Written.{EndsNumber};
 
@@ -146,7 +146,7 @@ pub(crate) fn member_at(words: &[u8], members: u8) -> Option<(MemberId, &[u8])>
 }
 
 /// The kind that the words are, where it fits a group of so many members.
-#[tactic(auto, unfolding(crate::specs::Text::kind_text))]
+#[tactic(auto, unfolding(upd_base::specs::Kind::kind_text))]
 pub(crate) fn kind_of(words: &[u8], members: u8) -> Option<Kind>
     requires { members ≤ MAX_MEMBERS }
     ensures some { IfSome result (λ kind. words.now ≡ kind_text kind) }

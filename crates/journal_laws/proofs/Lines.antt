@@ -10,6 +10,7 @@ use Rattle.std.proofs.lemmas.List.Sums.{AllPass-from_list_all}
 use Rattle.upd_base.specs.Plan.{step_fits}
 use Rattle.upd_base.specs.Text.{is_printable}
 use Rattle.upd_base.specs.declared.limits.TheConstants.{MAX_PAYLOAD}
+use Rattle.upd_base.specs.Kind.{kind_text}
 use Rattle.upd_base.specs.declared.kind.Kind.{Kind}
 use Rattle.upd_base.specs.declared.kind.Kind.TheVariants.{Sequencer, Lamport, Consensus}
 use Rattle.upd_base.specs.declared.call.Call.{Call}
@@ -19,7 +20,7 @@ use Rattle.upd_base.specs.declared.answer.Answer.{Answer}
 use Rattle.upd_base.specs.declared.answer.Answer.TheVariants.{Accepted, Done, Full, Crashed, VersionLimit, BadKind, BadMember}
 use Rattle.upd_base.specs.declared.event.Event.{Event}
 use Rattle.upd_base.specs.declared.event.Event.TheVariants.{Call as CallEvent, Receive, Release}
-use Rattle.journal_file.specs.Text.{Line, answer_text, call_text, event_line, events_line, first_line, heading_line, kind_text, last_line, members_line, step_line, thread_line, threads_line}
+use Rattle.journal_file.specs.Text.{Line, answer_text, call_text, event_line, events_line, first_line, heading_line, last_line, members_line, step_line, thread_line, threads_line}
 use Rattle.journal_file.specs.Grammar.{AnswerFits, EventFits, Follows, Leads, TextFits, Wanted}
 use Rattle.journal_file.specs.Grammar.Wanted.{WantsHeading, WantsMembers, WantsFirst, WantsThreads, WantsThread, WantsStep, WantsEvents, WantsEvent, WantsEnd, WantsNothing}
 use Rattle.journal_file.specs.Reading.{IsLine, NEWLINE}

@@ -1,12 +1,12 @@
 -- Where a line is what is wanted, one thing is wanted then.
 use Rattle.std.proofs.Common.{ℕ, ◌≡◌, ◌∙◌, ◌^◌, ◌<◌, ◌≤◌, ◌++◌, [], ◌∷◌, sym, ap, arith, true}
 use Rattle.std.specs.Prelude.{codes}
-use Rattle.upd_base.specs.Kind.{KindFits}
+use Rattle.upd_base.specs.Kind.{KindFits, kind_text}
 use Rattle.upd_base.specs.Plan.{Planned, bound, is_plan, plan_of}
 use Rattle.upd_base.specs.declared.kind.Kind.{Kind}
 use Rattle.upd_base.specs.declared.limits.TheConstants.{MAX_CALLS}
 use Rattle.run_journal.proofs.Bounds.{bound-le}
-use Rattle.journal_file.specs.Text.{Line, events_line, first_line, kind_text, members_line, thread_line, threads_line}
+use Rattle.journal_file.specs.Text.{Line, events_line, first_line, members_line, thread_line, threads_line}
 use Rattle.journal_file.specs.Grammar.{Wanted, Follows, calls_with, event_or_end, step_or_thread, thread_or_events}
 use Rattle.journal_file.specs.Grammar.Wanted.{WantsHeading, WantsMembers, WantsFirst, WantsThreads, WantsThread, WantsStep, WantsEvents, WantsEvent, WantsEnd, WantsNothing}
 use Rattle.journal_file.specs.Within.{IsWithin}

@@ -3,7 +3,7 @@ use Rattle.std.proofs.Common.{ℕ, ◌≡◌, ◌∙◌, ◌^◌, ◌<◌, ◌�
 use Rattle.std.specs.Prelude.{codes, decimal, nat_lt}
 use Rattle.std.proofs.lemmas.Bool.{and_parts}
 use Rattle.std.proofs.lemmas.Fmt.{decimal_injective, digits_decimal}
-use Rattle.upd_base.specs.Kind.{KindFits}
+use Rattle.upd_base.specs.Kind.{KindFits, kind_text}
 use Rattle.upd_base.specs.Plan.{call_fits, step_fits}
 use Rattle.upd_base.specs.declared.kind.Kind.{Kind}
 use Rattle.upd_base.specs.declared.kind.Kind.TheVariants.{Sequencer, Lamport, Consensus}
@@ -16,7 +16,7 @@ use Rattle.upd_base.specs.declared.event.Event.{Event}
 use Rattle.upd_base.specs.declared.event.Event.TheVariants.{Call as CallEvent, Receive, Release}
 use Rattle.upd_base.proofs.Fits.{nat_lt-true}
 use Rattle.journal_file.specs.Grammar.{AnswerFits, EventFits}
-use Rattle.journal_file.specs.Text.{answer_text, call_text, event_line, kind_text, step_line}
+use Rattle.journal_file.specs.Text.{answer_text, call_text, event_line, step_line}
 use Rattle.journal_file.specs.Written.{EndsNumber}
 use Rattle.journal_file.proofs.Digits.{own, split_unique}
 

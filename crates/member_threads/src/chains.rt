@@ -12,6 +12,7 @@ ghost use Rattle.member_threads.specs.Worker.{IsWorkersPass, HasWorked, HaveServ
 
 use crate::calling::make_calls;
 use crate::serving::{Served, serve_link};
+use group_lines::link_at;
 use line_rules::LineState;
 use live_group::{GroupPass, LiveGroup};
 use order_trait::Ordering;
@@ -19,7 +20,6 @@ use std::alloc::Global;
 use std::sync::Wait;
 use std::thread;
 use std::thread::Threads;
-use upd_base::MemberId;
 use upd_lines::Line;
 use worker_gates::Gate;
 
@@ -51,22 +51,6 @@ fn put_back<L: Line>(left: &mut Left<L>, place: usize, line: Option<L>, state: L
 {
     left.lines[place] = line;
     left.states[place] = state;
-}
-
-/// The link whose line stands at a place.
-fn link_at(members: u8, place: usize) -> (MemberId, MemberId)
-    requires within { place < members * members }
-    requires few { members ≤ 7 }
-    ensures from { result.0 < members }
-    ensures to { result.1 < members }
-    ensures place { result.0 * members + result.1 ≡ place }
-{
-    let count = members as usize;
-    let (from, to) = (place / count, place % count);
-    match (MemberId::new(from as u8), MemberId::new(to as u8)) {
-        (Some(from), Some(to)) => (from, to),
-        _ => unreachable!(),
-    }
 }
 
 // Whether one of the two is so.

@@ -3,8 +3,7 @@ use Rattle.std.specs.Prelude.{ℕ, Bool, true, false, ◌==◌, ◌&&◌, not, i
 use Rattle.std.specs.List.{list_any}
 use Rattle.upd_base.specs.Item.{is_message, number_of, origin_of}
 use Rattle.upd_base.specs.Plan.{Planned, planned, steps_in}
-use Rattle.upd_base.specs.declared.kind.Kind.{Kind}
-use Rattle.upd_base.specs.declared.kind.Kind.TheVariants.{Sequencer, Lamport, Consensus}
+use Rattle.upd_base.specs.Kind.{kind_text}
 use Rattle.upd_base.specs.declared.item.Item.{Item}
 use Rattle.upd_base.specs.declared.item.Item.TheVariants.{Msg, Switch}
 use Rattle.upd_base.specs.declared.entry.Entry.{Entry}
@@ -18,11 +17,6 @@ use Rattle.group_run.specs.Run.{Events, crashed_in, kind_in, log_in, version_in}
 use Rattle.group_run.specs.Ordered.{accepted_at, accepted_in}
 use Rattle.run_journal.specs.Asked.{asked_in}
 use Rattle.group_laws.specs.Canon.{one_list}
-
-unfoldable pub kind_text : Kind → List ℕ
-kind_text (Sequencer m) = codes "sequencer " ++ decimal m
-kind_text Lamport = codes "lamport"
-kind_text Consensus = codes "consensus"
 
 abbrev pub id_text : ℕ → ℕ → List ℕ
 id_text origin number = decimal origin ++ codes "." ++ decimal number

@@ -1,21 +1,9 @@
-//! The spelling of each line of a report: kinds, items, log entries, members, and the counts of the run.
+//! The spelling of each line of a report: items, log entries, members, and the counts of the run.
 ghost use Rattle.std.specs.Prelude.{◌≡◌, ◌++◌, OnOk, IfOk, string_bytes, flat_map};
-ghost use Rattle.run_report.specs.Report.{kind_text, state_text, item_text, entry_line, member_line, run_line, answers_line, absence_text};
+ghost use Rattle.run_report.specs.Report.{state_text, item_text, entry_line, member_line, run_line, answers_line, absence_text};
 
 use std::alloc::{AllocError, Global};
-use upd_base::{Entry, Item, Kind};
-
-/// A kind as scenarios and reports write it.
-#[tactic(auto, unfolding(crate::specs::Report::kind_text))]
-pub fn kind_text(alloc: Global, kind: Kind) -> Result<String, AllocError>
-    ensures { IfOk result (λ s. string_bytes s ≡ kind_text kind) }
-{
-    match kind {
-        Kind::Sequencer(member) => format!(in alloc; "sequencer {}", member.get()),
-        Kind::Lamport => String::from_str(alloc, "lamport"),
-        Kind::Consensus => String::from_str(alloc, "consensus"),
-    }
-}
+use upd_base::{Entry, Item};
 
 /// Adds an item: a message with its payload, or a switch with its kind.
 #[tactic(auto, unfolding(crate::specs::Report::item_text))]
@@ -37,7 +25,7 @@ pub fn put_item(alloc: Global, out: &mut Vec<u8>, item: &Item) -> Result<(), All
             number,
             kind,
         } => {
-            let kind = kind_text(alloc, *kind)?;
+            let kind = kind.text(alloc)?;
             let text = format!(in alloc; "switch {}.{} {}", origin.get(), *number, kind)?;
             out.extend_from_slice(text.as_bytes())
         }

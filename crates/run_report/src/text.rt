@@ -7,7 +7,7 @@ ghost use Rattle.run_report.specs.Report.{entry_line, member_text, members_text,
 
 use crate::absent::put_absents;
 use crate::counts::put_counts;
-use crate::lines::{kind_text, member_line, put, put_entries, state_text};
+use crate::lines::{member_line, put, put_entries, state_text};
 use order_trait::Ordering;
 use run_journal::Journal;
 use std::alloc::Global;
@@ -59,7 +59,7 @@ fn put_member<O: Ordering>(
 {
     journal.plan().keeps_limits();
     let member = member_at(i as usize);
-    let kind = kind_text(alloc, journal.kind(member))?;
+    let kind = journal.kind(member).text(alloc)?;
     let log = journal.log(member).entries();
     let line = member_line(
         alloc,

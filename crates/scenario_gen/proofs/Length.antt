@@ -6,8 +6,9 @@ use Rattle.json.specs.Token.{Token}
 use Rattle.json.specs.Print.{begins, ends, escape, escape_byte, escape_letter, print, print_from, quoted, token_text}
 use Rattle.json.specs.Tree.{items_tokens, json_tokens, room}
 use Rattle.json.proofs.Printed.Trees.{room-append}
+use Rattle.upd_base.specs.Kind.{kind_text}
 use Rattle.scenario_gen.specs.Generate.{kind_by, member_by, message, numbered, of_thread}
-use Rattle.scenario_gen.specs.Spelling.{items_of, kind_name, scenario_json, step_json, thread_json, threads_json}
+use Rattle.scenario_gen.specs.Spelling.{items_of, scenario_json, step_json, thread_json, threads_json}
 use Rattle.scenario_gen.proofs.Counts.{AreNumbers, all_threads, length_numbered, numbers, numbers_of_thread, one, tested, total, total_one}
 
 separator_short : (b : Bool) → length {A = ℕ} (cond b (44 ∷ []) []) ≤ 1
@@ -53,7 +54,8 @@ key_room s n le = let q = quoted_short s in let a = length-append (quoted s) (58
 digit_room : (word : ℕ) → length (decimal (member_by word)) ≤ 1
 digit_room word = length-decimal-le 1 (member_by word) (omega arith) (omega arith) (omega arith)
 
-name_short : (word : ℕ) → length (kind_name (kind_by word)) ≤ 11
+name_short : (word : ℕ) → length (kind_text (kind_by word)) ≤ 11
+unfolding kind_text
 name_short word = elim (tested (word / 5 % 3 == 0)) [
   | inl e ↦ rw e (let d = length-decimal-le 1 (word / 15 % 5) (omega arith) (omega arith) (omega arith) in let a = length-append (codes "sequencer ") (decimal (word / 15 % 5)) in omega arith)
   | inr e ↦ elim (tested (word / 5 % 3 == 1)) [ inl f ↦ rw (e, f) (omega arith) | inr f ↦ rw (e, f) (omega arith) ]
@@ -73,7 +75,7 @@ step_room call lt =
       | inl e ↦ rw e (
           let name = string_room (codes "change") 6 (omega arith) in
           let kind = key_room (codes "kind") 4 (omega arith) in
-          let value = string_room (kind_name (kind_by call.1)) 11 (name_short call.1) in
+          let value = string_room (kind_text (kind_by call.1)) 11 (name_short call.1) in
           omega arith)
       | inr e ↦ rw e (
           let name = string_room (codes "send") 4 (omega arith) in

@@ -3,6 +3,7 @@ use Rattle.std.proofs.Common.{ℕ, zero, suc, ◌≡◌, ◌<◌, ◌≤◌, ◌
 use Rattle.std.proofs.lemmas.Fmt.{decimal_digit}
 use Rattle.serde_json.specs.Data.{object}
 use Rattle.serde_json.specs.View.{items_of}
+use Rattle.upd_base.specs.Kind.{kind_text}
 use Rattle.upd_base.specs.Text.{payload}
 use Rattle.upd_base.specs.Plan.{change_count}
 use Rattle.upd_base.specs.declared.kind.Kind.{Kind}
@@ -13,14 +14,14 @@ use Rattle.scenario.specs.Reading.{after, call_of, each, kind, kind_in, kind_of,
 use Rattle.scenario.specs.Gives.{◌>>=◌}
 use Rattle.scenario.specs.Tree.{item_path}
 use Rattle.scenario_gen.specs.Generate.{call_by, kind_by, member_by, message, step_by}
-use Rattle.scenario_gen.specs.Spelling.{kind_name}
 use Rattle.scenario_gen.proofs.Counts.{AreNumbers, change, tested, total}
 use Rattle.scenario_gen.proofs.Payload.{message_is_payload}
 use Rattle.scenario_gen.proofs.Tree.{change_data, send_data, step_data, thread_data}
 
 -- Kinds --------------------------------------------------------------------------------------------------------------
 
-sequencer_named : (m : ℕ) → m < 5 → kind_of 5 (kind_name (Sequencer m)) ≡ Some (Sequencer m)
+sequencer_named : (m : ℕ) → m < 5 → kind_of 5 (kind_text (Sequencer m)) ≡ Some (Sequencer m)
+unfolding kind_text
 sequencer_named zero lt = rw (decimal_digit 0 (omega arith)) refl
 sequencer_named (suc zero) lt = rw (decimal_digit 1 (omega arith)) refl
 sequencer_named (suc (suc zero)) lt = rw (decimal_digit 2 (omega arith)) refl
@@ -28,7 +29,8 @@ sequencer_named (suc (suc (suc zero))) lt = rw (decimal_digit 3 (omega arith)) r
 sequencer_named (suc (suc (suc (suc zero)))) lt = rw (decimal_digit 4 (omega arith)) refl
 sequencer_named (suc (suc (suc (suc (suc m))))) lt = absurd (omega arith)
 
-kind_named : (word : ℕ) → kind_of 5 (kind_name (kind_by word)) ≡ Some (kind_by word)
+kind_named : (word : ℕ) → kind_of 5 (kind_text (kind_by word)) ≡ Some (kind_by word)
+unfolding kind_text
 kind_named word = elim (tested (word / 5 % 3 == 0)) [
   | inl e ↦ rw e (sequencer_named (word / 15 % 5) (omega arith))
   | inr e ↦ elim (tested (word / 5 % 3 == 1)) [ inl f ↦ rw (e, f) refl | inr f ↦ rw (e, f) refl ]
@@ -36,7 +38,7 @@ kind_named word = elim (tested (word / 5 % 3 == 0)) [
 
 -- A step -------------------------------------------------------------------------------------------------------------
 
-change_read : (b : Before) (path : List ℕ) (at : ℕ) (k : Kind) → at < 5 → kind_of 5 (kind_name k) ≡ Some k → b.steps < 1000 → b.changes < 32
+change_read : (b : Before) (path : List ℕ) (at : ℕ) (k : Kind) → at < 5 → kind_of 5 (kind_text k) ≡ Some k → b.steps < 1000 → b.changes < 32
     → step 5 b path (object (change_data at k)) ≡ Ok (record { at = at; call = Change k }, after b (record { at = at; call = Change k }))
 unfolding step member_in member_below op_in call_of kind_in kind
 change_read b path at k five named steps changes = rw (lt-ltb b.steps 1000 steps, lt-ltb at 5 five, lt-ltb b.changes 32 changes, named) refl

@@ -10,16 +10,17 @@ use Rattle.serde_json.specs.Data.{Data, Members, array, item, member, no_members
 use Rattle.serde_json.specs.Read.{max_depth, of_items, of_json, of_members, read}
 use Rattle.serde_json.specs.View as view
 use Rattle.serde_json.proofs.Numbers.{number_of-decimal}
+use Rattle.upd_base.specs.Kind.{kind_text}
 use Rattle.upd_base.specs.declared.kind.Kind.{Kind}
 use Rattle.scenario_gen.specs.Generate.{kind_by, member_by, message, numbered, of_thread}
-use Rattle.scenario_gen.specs.Spelling.{items_of, kind_name, scenario_json, step_json, thread_json, threads_json}
+use Rattle.scenario_gen.specs.Spelling.{items_of, scenario_json, step_json, thread_json, threads_json}
 use Rattle.scenario_gen.proofs.Counts.{tested}
 use Rattle.scenario_gen.proofs.Line.{newline, tokens_of_line}
 
 -- The data -----------------------------------------------------------------------------------------------------------
 
 abbrev pub change_data : ℕ → Kind → Members
-change_data at kind = member (codes "at") (number (unsigned at)) (member (codes "kind") (string (kind_name kind)) (member (codes "op") (string (codes "change")) no_members))
+change_data at kind = member (codes "at") (number (unsigned at)) (member (codes "kind") (string (kind_text kind)) (member (codes "op") (string (codes "change")) no_members))
 
 abbrev pub send_data : ℕ → List ℕ → Members
 send_data at text = member (codes "at") (number (unsigned at)) (member (codes "op") (string (codes "send")) (member (codes "text") (string text) no_members))

@@ -4,21 +4,16 @@ use Rattle.json.specs.Json.{Json, number, string, array, object, Items, no_items
 use Rattle.json.specs.Tree.{json_tokens}
 use Rattle.json.specs.Print.{print}
 use Rattle.upd_base.specs.declared.kind.Kind.{Kind}
-use Rattle.upd_base.specs.declared.kind.Kind.TheVariants.{Sequencer, Lamport, Consensus}
+use Rattle.upd_base.specs.Kind.{kind_text}
 use Rattle.scenario_gen.specs.Generate.{kind_by, member_by, message, numbered, of_thread, words}
 
 abbrev pub items_of : List Json → Items
 items_of [] = no_items
 items_of (j ∷ js) = item j (items_of js)
 
-abbrev pub kind_name : Kind → List ℕ
-kind_name (Sequencer m) = codes "sequencer " ++ decimal m
-kind_name Lamport = codes "lamport"
-kind_name Consensus = codes "consensus"
-
 -- the op of a step, and its operand
 abbrev pub change_json : Kind → Members
-change_json kind = member (codes "op") (string (codes "change")) (member (codes "kind") (string (kind_name kind)) no_members)
+change_json kind = member (codes "op") (string (codes "change")) (member (codes "kind") (string (kind_text kind)) no_members)
 
 abbrev pub send_json : List ℕ → Members
 send_json text = member (codes "op") (string (codes "send")) (member (codes "text") (string text) no_members)

@@ -1,8 +1,8 @@
 //! The spelling of what was chosen, token by token.
-ghost use Rattle.std.specs.Prelude.{ℕ, ◌≡◌, ◌<◌, ◌≤◌, [], ◌∷◌, ◌++◌, IfOk, OnOk, length, string_bytes};
+ghost use Rattle.std.specs.Prelude.{◌≡◌, ◌<◌, ◌++◌, OnOk};
 ghost use Rattle.json.specs.Tree.{json_tokens, members_tokens};
 ghost use Rattle.scenario_gen.specs.Generate.{message, numbered};
-ghost use Rattle.scenario_gen.specs.Spelling.{change_json, kind_name, scenario_json, send_json, step_json, thread_json, threads_json};
+ghost use Rattle.scenario_gen.specs.Spelling.{change_json, scenario_json, send_json, step_json, thread_json, threads_json};
 
 use crate::draw::{kind_by, member_by};
 use json::Writer;
@@ -83,7 +83,7 @@ fn write_change(alloc: Global, out: &mut Writer, kind: Kind) -> Result<(), Alloc
     ensures before { OnOk result (out.new.before ≡ out.old.before) }
     ensures tokens { OnOk result (out.new.tokens ≡ out.old.tokens ++ members_tokens (change_json kind)) }
 {
-    let name = kind_name(alloc, kind)?;
+    let name = kind.text(alloc)?;
     out.key("op")?;
     out.string("change")?;
     out.key("kind")?;
@@ -102,14 +102,4 @@ fn write_send(alloc: Global, out: &mut Writer, call: usize) -> Result<(), AllocE
     out.key("text")?;
     out.string(text.as_str())?;
     out.end_object()
-}
-
-fn kind_name(alloc: Global, kind: Kind) -> Result<String, AllocError>
-    ensures { IfOk result (λ s. string_bytes s ≡ kind_name kind) }
-{
-    match kind {
-        Kind::Sequencer(member) => format!(in alloc; "sequencer {}", member.get()),
-        Kind::Lamport => String::from_str(alloc, "lamport"),
-        Kind::Consensus => String::from_str(alloc, "consensus"),
-    }
 }

@@ -1,3 +1,4 @@
 pub mod Maps
+pub mod Same
 pub mod Fits
 pub mod PlanFacts

@@ -1,5 +1,5 @@
 -- Kinds of ordering modules.
-use Rattle.std.specs.Prelude.{ℕ, Bool, true, ◌≡◌, nat_lt}
+use Rattle.std.specs.Prelude.{ℕ, Bool, true, ◌≡◌, ◌++◌, List, codes, decimal, nat_lt}
 use Rattle.upd_base.specs.declared.kind.Kind.{Kind}
 use Rattle.upd_base.specs.declared.kind.Kind.TheVariants.{Sequencer, Lamport, Consensus}
 
@@ -12,3 +12,9 @@ kind_fits n Consensus = true
 -- the same as a fact
 abbrev pub KindFits : ℕ → Kind → Type 0
 KindFits n kind = kind_fits n kind ≡ true
+
+-- the words for a kind, in scenarios, reports and journals
+unfoldable pub kind_text : Kind → List ℕ
+kind_text (Sequencer m) = codes "sequencer " ++ decimal m
+kind_text Lamport = codes "lamport"
+kind_text Consensus = codes "consensus"

@@ -1,5 +1,5 @@
 //! What one instance of consensus decides on: a set of items, kept in one canonical order so that a set is one list.
-ghost use Rattle.std.specs.Prelude.{◌≡◌, true, ◌↔◌, IfOk, IsTrue, length};
+ghost use Rattle.std.specs.Prelude.{◌≡◌, true, IfOk};
 ghost use Rattle.std.specs.List.{list_all};
 ghost use Rattle.upd_base.specs.Batch.{ascends, comes_first, batch, is_batch};
 ghost use Rattle.upd_base.specs.Item.{item_fits};
@@ -61,13 +61,6 @@ impl Batch {
         Ok(Batch { items })
     }
 
-    /// Whether the two hold the same items.
-    pub fn is_same(&self, other: &Batch) -> bool
-        ensures { IsTrue result ↔ (self.now ≡ other.now) }
-    {
-        are_same(self.items.as_slice(), other.items.as_slice())
-    }
-
     /// Whether each member that it names is below n.
     pub fn fits(&self, n: u8) -> bool
         ensures { result ≡ list_all (item_fits n) self.now }
@@ -104,16 +97,6 @@ fn copy_of(alloc: Global, items: &[Item]) -> Result<Vec<Item>, NoMemory>
         copies.push(item.copy()?)?;
     }
     Ok(copies)
-}
-
-fn are_same(items: &[Item], others: &[Item]) -> bool
-    ensures { IsTrue result ↔ (items.now ≡ others.now) }
-{
-    match (items, others) {
-        ([], []) => true,
-        ([item, rest @ ..], [other, others @ ..]) => item.is_same(other) && are_same(rest, others),
-        _ => false,
-    }
 }
 
 fn is_batch(items: &[Item]) -> bool

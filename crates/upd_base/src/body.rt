@@ -1,5 +1,5 @@
 //! The messages of all three ordering protocols, as modules of one version send them to each other.
-ghost use Rattle.std.specs.Prelude.{◌≡◌, ◌↔◌, IfOk, IsTrue};
+ghost use Rattle.std.specs.Prelude.{◌≡◌, IfOk};
 ghost use Rattle.upd_base.specs.Body.{body_fits, is_body};
 
 use crate::batch::Batch;
@@ -118,87 +118,6 @@ impl Body {
                 instance: *instance,
                 batch: batch.copy(alloc)?,
             }),
-        }
-    }
-
-    /// Whether the two are one body to the last byte.
-    pub fn is_same(&self, other: &Body) -> bool
-        ensures { IsTrue result ↔ (self.now ≡ other.now) }
-    {
-        match (self, other) {
-            (Body::Ask { item }, Body::Ask { item: other }) => item.is_same(other),
-            (
-                Body::Ord { place, item },
-                Body::Ord {
-                    place: at,
-                    item: other,
-                },
-            ) => place == at && item.is_same(other),
-            (
-                Body::Req { stamp, item },
-                Body::Req {
-                    stamp: at,
-                    item: other,
-                },
-            ) => stamp == at && item.is_same(other),
-            (Body::Ack { stamp }, Body::Ack { stamp: at }) => stamp == at,
-            (Body::Rb { item }, Body::Rb { item: other }) => item.is_same(other),
-            (
-                Body::Est {
-                    instance,
-                    round,
-                    stamp,
-                    batch,
-                },
-                Body::Est {
-                    instance: other_instance,
-                    round: other_round,
-                    stamp: other_stamp,
-                    batch: other,
-                },
-            ) => instance == other_instance
-                && round == other_round
-                && stamp == other_stamp
-                && batch.is_same(other),
-            (
-                Body::Prop {
-                    instance,
-                    round,
-                    batch,
-                },
-                Body::Prop {
-                    instance: other_instance,
-                    round: other_round,
-                    batch: other,
-                },
-            ) => instance == other_instance && round == other_round && batch.is_same(other),
-            (
-                Body::Reply {
-                    instance,
-                    round,
-                    yes,
-                },
-                Body::Reply {
-                    instance: other_instance,
-                    round: other_round,
-                    yes: other,
-                },
-            ) => instance == other_instance && round == other_round && yes == other,
-            (
-                Body::Next { instance, round },
-                Body::Next {
-                    instance: other_instance,
-                    round: other_round,
-                },
-            ) => instance == other_instance && round == other_round,
-            (
-                Body::Decide { instance, batch },
-                Body::Decide {
-                    instance: other_instance,
-                    batch: other,
-                },
-            ) => instance == other_instance && batch.is_same(other),
-            _ => false,
         }
     }
 

@@ -35,6 +35,6 @@ impl Frame {
     pub fn is_same(&self, other: &Frame) -> bool
         ensures { IsTrue result ↔ (self.now ≡ other.now) }
     {
-        self.version == other.version && self.body.is_same(&other.body)
+        self == other
     }
 }

@@ -1,5 +1,5 @@
 //! The units of total order broadcast: messages and protocol switches, ordered together, named by origin and number.
-ghost use Rattle.std.specs.Prelude.{◌≡◌, ◌↔◌, IfOk, IsTrue};
+ghost use Rattle.std.specs.Prelude.{◌≡◌, IfOk};
 ghost use Rattle.upd_base.specs.Item.{has_id, id_of, item_fits, number_of, origin_of, stands_before, switch_of};
 
 use crate::kind::Kind;
@@ -75,13 +75,6 @@ impl Item {
             Item::Msg { .. } => None,
             Item::Switch { kind, .. } => Some(*kind),
         }
-    }
-
-    /// Whether the two are one item to the last byte.
-    pub fn is_same(&self, other: &Item) -> bool
-        ensures { IsTrue result ↔ (self.now ≡ other.now) }
-    {
-        self == other
     }
 
     /// Whether the two have one origin and one number.

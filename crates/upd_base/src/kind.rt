@@ -1,8 +1,9 @@
 //! The three ordering protocols that a version may run: fixed sequencer, logical clocks, or consensus.
-ghost use Rattle.std.specs.Prelude.{◌≡◌, ◌↔◌, IsTrue};
-ghost use Rattle.upd_base.specs.Kind.{kind_fits};
+ghost use Rattle.std.specs.Prelude.{◌≡◌, IfOk, string_bytes};
+ghost use Rattle.upd_base.specs.Kind.{kind_fits, kind_text};
 
 use crate::member::MemberId;
+use std::alloc::{AllocError, Global};
 
 /// A kind of ordering module: the protocol of one version.
 #[derive(Clone, Copy, Debug, PartialEq, Eq)]
@@ -16,11 +17,16 @@ pub enum Kind {
 }
 
 impl Kind {
-    /// Whether the two are one kind, of one sequencer where they name one.
-    pub fn is_same(&self, other: &Kind) -> bool
-        ensures { IsTrue result ↔ (self.now ≡ other.now) }
+    /// The words for it, in scenarios, reports and journals.
+    #[tactic(auto, unfolding(crate::specs::Kind::kind_text))]
+    pub fn text(self, alloc: Global) -> Result<String, AllocError>
+        ensures { IfOk result (λ text. string_bytes text ≡ kind_text self) }
     {
-        self == other
+        match self {
+            Kind::Sequencer(member) => format!(in alloc; "sequencer {}", member.get()),
+            Kind::Lamport => String::from_str(alloc, "lamport"),
+            Kind::Consensus => String::from_str(alloc, "consensus"),
+        }
     }
 
     /// Whether each member that it names is below n.

@@ -36,4 +36,4 @@ pub use log::Log;
 pub use member::MemberId;
 pub use no_memory::NoMemory;
 pub use plan::Plan;
-pub use text::Text;
+pub use text::{Text, is_printable};

@@ -95,5 +95,12 @@ fn is_payload(bytes: &[u8]) -> bool
 fn all_printable(bytes: &[u8]) -> bool
     ensures { result ≡ list_all is_printable bytes.now }
 {
-    bytes.iter().all(|byte| 0x20 <= *byte && *byte <= 0x7e)
+    bytes.iter().all(|byte| is_printable(*byte))
+}
+
+/// Whether a payload may hold the byte: printable ASCII, 0x20 to 0x7e.
+pub fn is_printable(byte: u8) -> bool
+    ensures { result ≡ is_printable byte }
+{
+    0x20 <= byte && byte <= 0x7e
 }

@@ -1,5 +1,5 @@
 //! Reading frames, field by field from the left.
-ghost use Rattle.std.specs.Prelude.{◌≡◌, ◌≤◌, ◌<◌, ◌-◌, ℕ, true, false, List, None, IfSome, IfNone, slice_index, length, drop, take, IfOk, IfErr, Ok, Err, OnErr};
+ghost use Rattle.std.specs.Prelude.{◌≡◌, ◌≤◌, ◌<◌, ◌-◌, ℕ, true, false, List, None, IfSome, IfNone, slice_index, length, drop, take, IfOk, IfErr, Ok, Err};
 ghost use Rattle.std.specs.Int.{w16, w32, w64};
 ghost use Rattle.std.specs.List.{list_all};
 ghost use Rattle.upd_base.specs.Text.{is_printable, is_payload};
@@ -14,6 +14,7 @@ use crate::tag::{Tag, tag_of};
 use std::alloc::Global;
 use upd_base::{
     Batch, Body, Frame, Item, Kind, MAX_BATCH, MAX_PAYLOAD, MAX_VERSION, MemberId, Text,
+    is_printable,
 };
 
 /// The origin and number of an item.
@@ -208,12 +209,6 @@ pub(crate) fn kind_at(all: usize, left: &mut &[u8]) -> Result<Kind, FrameFault>
         }
         [_, ..] => Err(FrameFault::BadTag(place(all, left))),
     }
-}
-
-fn is_printable(byte: u8) -> bool
-    ensures { result ≡ is_printable byte }
-{
-    0x20 <= byte && byte <= 0x7e
 }
 
 /// The place of the first byte that is not printable.
