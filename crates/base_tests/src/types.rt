@@ -1,7 +1,10 @@
 //! What each type takes and refuses at its limits, and copies that are the same.
 use std::alloc::Global;
 use std::test::Fail;
-use upd_base::{Batch, Body, Call, Entry, Frame, Item, Kind, Log, MemberId, Plan, Step, Text};
+use upd_base::{
+    Batch, Body, Call, Entry, Frame, Item, Kind, Log, MemberId, Plan, Step, Text, is_printable,
+    member_at,
+};
 
 fn text(alloc: Global, bytes: &[u8]) -> Result<Text, Fail> {
     Ok(Text::new(alloc, bytes)?.ok_or("no payload")?)
@@ -16,6 +19,16 @@ fn message(alloc: Global, origin: u8, number: u32) -> Result<Item, Fail> {
 }
 
 #[test]
+fn members_and_kinds(rt: HostRuntime) -> Result<(), Fail> {
+    let alloc = rt.alloc();
+    assert!(rt; MemberId::new(6) == Some(member_at(6)) && MemberId::new(7).is_none());
+    let last = Kind::Sequencer(member_at(6));
+    assert_eq!(rt; last.text(alloc)?.as_str(), "sequencer 6");
+    assert!(rt; last.fits(7) && !last.fits(6));
+    Ok(())
+}
+
+#[test]
 fn payloads(rt: HostRuntime) -> Result<(), Fail> {
     let alloc = rt.alloc();
     let longest = vec![in alloc; b'~'; 256]?;
@@ -27,6 +40,7 @@ fn payloads(rt: HostRuntime) -> Result<(), Fail> {
     assert!(rt; Text::new(alloc, b"")?.is_none());
     assert!(rt; Text::new(alloc, b"\x1f")?.is_none());
     assert!(rt; Text::new(alloc, b"\x7f")?.is_none());
+    assert!(rt; is_printable(0x7e) && !is_printable(0x7f));
     Ok(())
 }
 
@@ -48,7 +62,7 @@ fn batches(rt: HostRuntime) -> Result<(), Fail> {
         version: 1,
         body: Body::Decide { instance: 1, batch },
     };
-    assert!(rt; decision.copy(alloc)? == decision);
+    assert!(rt; decision.copy(alloc)?.is_same(&decision));
     assert!(rt; decision.fits(2) && decision.body.counts_from_one());
     Ok(())
 }

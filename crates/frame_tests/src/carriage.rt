@@ -2,30 +2,19 @@
 ghost use Rattle.std.specs.Prelude.{IfOk};
 ghost use Rattle.upd_frame.specs.Spelling.{IsFrame};
 
+use crate::given::{member, message};
 use frame_carriage::{Came, CarryFault, carry, keeps_limits};
 use line_fakes::{LieLines, LineFail, MemLines, SureLines, Way};
 use std::alloc::Global;
 use std::test::Fail;
-use upd_base::{Batch, Body, Frame, Item, MemberId, Text};
+use upd_base::{Batch, Body, Frame};
 use upd_lines::LineMaker;
-
-fn member(id: u8) -> Result<MemberId, Fail> {
-    Ok(MemberId::new(id).ok_or("no member")?)
-}
-
-fn message(alloc: Global, number: u32, bytes: &[u8]) -> Result<Item, Fail> {
-    Ok(Item::Msg {
-        origin: member(1)?,
-        number,
-        payload: Text::new(alloc, bytes)?.ok_or("no payload")?,
-    })
-}
 
 /// Version 0, Ask of the message a, number 0 of member 1: 00 00 01 00 01 00 00 00 00 00 01 61.
 fn asks_a(alloc: Global) -> Result<Frame, Fail>
     ensures { IfOk result (λ frame. IsFrame frame) }
 {
-    let item = message(alloc, 0, b"a")?;
+    let item = message(alloc, 1, 0, b"a")?;
     let frame = Frame {
         version: 0,
         body: Body::Ask { item },
@@ -40,7 +29,7 @@ fn largest(alloc: Global) -> Result<Frame, Fail>
 {
     let mut items = Vec::new(alloc);
     for number in 0..32u32 {
-        items.push(message(alloc, number, &[0x61; 256])?)?;
+        items.push(message(alloc, 1, number, &[0x61; 256])?)?;
     }
     let batch = Batch::new(items).ok_or("no batch")?;
     let frame = Frame {

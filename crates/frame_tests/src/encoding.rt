@@ -1,43 +1,16 @@
 //! The worked frame, each kind of body there and back, and the first fault of frames with a byte changed.
+use crate::given::{asks_a, changed, member, message, told_whole};
 use std::alloc::Global;
 use std::test::Fail;
-use upd_base::{Batch, Body, Frame, Item, Kind, MemberId, Text};
+use upd_base::{Batch, Body, Frame, Item, Kind};
 use upd_frame::{decode, decode_front, encode};
-
-/// Version 0, Ask of the message a, number 0 of member 1.
-fn asks_a(alloc: Global) -> Result<Vec<u8>, Fail> {
-    Ok(vec![in alloc; 0u8, 0, 1, 0, 1, 0, 0, 0, 0, 0, 1, 0x61]?)
-}
-
-fn message(alloc: Global, origin: u8, number: u32, bytes: &[u8]) -> Result<Item, Fail> {
-    Ok(Item::Msg {
-        origin: MemberId::new(origin).ok_or("no member")?,
-        number,
-        payload: Text::new(alloc, bytes)?.ok_or("no payload")?,
-    })
-}
 
 fn switch(origin: u8, number: u32, kind: Kind) -> Result<Item, Fail> {
     Ok(Item::Switch {
-        origin: MemberId::new(origin).ok_or("no member")?,
+        origin: member(origin)?,
         number,
         kind,
     })
-}
-
-/// The text of a fault, as a test tells it.
-fn told(alloc: Global, bytes: &[u8]) -> Result<String, Fail> {
-    match decode(alloc, bytes) {
-        Ok(frame) => {
-            let item = match &frame.body {
-                Body::Ask { item } => item.number(),
-                _ => 0,
-            };
-            let version = frame.version;
-            Ok(format!(in alloc; "{version} {item}")?)
-        }
-        Err(fault) => Ok(format!(in alloc; "{fault:?}")?),
-    }
 }
 
 #[test]
@@ -60,24 +33,18 @@ fn fronts_and_tails(rt: HostRuntime) -> Result<(), Fail> {
     let alloc = rt.alloc();
     let mut bytes = asks_a(alloc)?;
     bytes.push(0)?;
-    assert_eq!(rt; told(alloc, bytes.as_slice())?.as_str(), "LongTail(12)");
+    assert_eq!(rt;
+        told_whole(alloc, bytes.as_slice())?.as_str(),
+        "LongTail(12)"
+    );
     let (_, size) = decode_front(alloc, bytes.as_slice()).ok().ok_or("a front")?;
     assert_eq!(rt; size, 12);
     let _ = bytes.pop();
     for _ in 0..12u8 {
         let _ = bytes.pop();
-        assert_eq!(rt; told(alloc, bytes.as_slice())?.as_str(), "Short");
+        assert_eq!(rt; told_whole(alloc, bytes.as_slice())?.as_str(), "Short");
     }
     Ok(())
-}
-
-/// What is told of the worked frame with one byte changed.
-fn changed(alloc: Global, at: usize, byte: u8) -> Result<String, Fail> {
-    let mut bytes = asks_a(alloc)?;
-    if let Some(place) = bytes.get_mut(at) {
-        *place = byte;
-    }
-    told(alloc, bytes.as_slice())
 }
 
 #[test]
@@ -90,10 +57,17 @@ fn one_byte_changed(rt: HostRuntime) -> Result<(), Fail> {
         (11, 0x7f, "BadText(11)"),
     ];
     for (at, byte, want) in cases {
-        assert_eq!(rt; changed(alloc, at, byte)?.as_str(), want, "byte {at}");
+        assert_eq!(rt;
+            told_whole(alloc, changed(alloc, at, byte)?.as_slice())?.as_str(),
+            want,
+            "byte {at}"
+        );
     }
     let bytes = vec![in alloc; 3u8, 0xe9, 1, 0, 1, 0, 0, 0, 0, 0, 1, 0x61]?;
-    assert_eq!(rt; told(alloc, bytes.as_slice())?.as_str(), "BadNumber(0)");
+    assert_eq!(rt;
+        told_whole(alloc, bytes.as_slice())?.as_str(),
+        "BadNumber(0)"
+    );
     Ok(())
 }
 
@@ -148,8 +122,7 @@ fn each_body(rt: HostRuntime) -> Result<(), Fail> {
         )?,
         18
     );
-    let sequencer = MemberId::new(6).ok_or("no member")?;
-    let item = switch(0, 1, Kind::Sequencer(sequencer))?;
+    let item = switch(0, 1, Kind::Sequencer(member(6)?))?;
     assert_eq!(rt; read_again(alloc, 0, Body::Rb { item })?, 11);
     assert_eq!(rt;
         read_again(
@@ -217,6 +190,9 @@ fn items_out_of_order(rt: HostRuntime) -> Result<(), Fail> {
     let origin = bytes.get_mut(20).ok_or("the second origin")?;
     *origin = 1;
     // The number of the second item stands at 21, and 0 is not above 5.
-    assert_eq!(rt; told(alloc, bytes.as_slice())?.as_str(), "BadNumber(21)");
+    assert_eq!(rt;
+        told_whole(alloc, bytes.as_slice())?.as_str(),
+        "BadNumber(21)"
+    );
     Ok(())
 }

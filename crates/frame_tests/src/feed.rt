@@ -1,16 +1,11 @@
 //! Frames from a stream in pieces of any size, and faults that stay.
 ghost use Rattle.std.specs.Prelude.{◌<◌};
 
+use crate::given::{asks_a, changed, told, told_whole};
 use frame_feed::Feed;
 use std::alloc::Global;
 use std::test::Fail;
-use upd_base::{Body, Frame};
-use upd_frame::{FrameFault, decode, encode};
-
-/// Version 0, Ask of the message a, number 0 of member 1.
-fn asks_a(alloc: Global) -> Result<Vec<u8>, Fail> {
-    Ok(vec![in alloc; 0u8, 0, 1, 0, 1, 0, 0, 0, 0, 0, 1, 0x61]?)
-}
+use upd_frame::{FrameFault, encode};
 
 #[test]
 fn byte_by_byte(rt: HostRuntime) -> Result<(), Fail> {
@@ -65,38 +60,6 @@ fn a_fault_stays(rt: HostRuntime) -> Result<(), Fail> {
     Ok(())
 }
 
-/// The worked frame with the byte at this place made ff.
-fn made_ff(alloc: Global, at: usize) -> Result<Vec<u8>, Fail> {
-    let mut bytes = asks_a(alloc)?;
-    let byte = bytes.get_mut(at).ok_or("no such byte")?;
-    *byte = 0xff;
-    Ok(bytes)
-}
-
-/// The text of an answer, as a test tells it: of a frame its version and the number of what it asks for.
-fn told(alloc: Global, answer: Result<Option<Frame>, FrameFault>) -> Result<String, Fail> {
-    match answer {
-        Ok(Some(frame)) => {
-            let number = match &frame.body {
-                Body::Ask { item } => item.number(),
-                _ => 0,
-            };
-            let version = frame.version;
-            Ok(format!(in alloc; "{version} {number}")?)
-        }
-        Ok(None) => Ok(format!(in alloc; "None")?),
-        Err(fault) => Ok(format!(in alloc; "{fault:?}")?),
-    }
-}
-
-/// What decoding all of the bytes tells.
-fn told_whole(alloc: Global, bytes: &[u8]) -> Result<String, Fail> {
-    match decode(alloc, bytes) {
-        Ok(frame) => told(alloc, Ok(Some(frame))),
-        Err(fault) => told(alloc, Err(fault)),
-    }
-}
-
 /// What a feed tells that got the bytes in pieces of this size and was asked behind each: the first answer that isn't None.
 fn told_in_pieces(alloc: Global, bytes: &[u8], size: usize) -> Result<String, Fail>
     requires { 0 < size }
@@ -131,7 +94,7 @@ fn one_byte_made_ff(rt: HostRuntime) -> Result<(), Fail> {
         ("BadText(11)", "BadText(11)"),
     ];
     for (at, (decoded, fed)) in cases.iter().enumerate() {
-        let bytes = made_ff(alloc, at)?;
+        let bytes = changed(alloc, at, 0xff)?;
         let bytes = bytes.as_slice();
         assert_eq!(rt; told_whole(alloc, bytes)?.as_str(), *decoded, "byte {at}");
         assert_eq!(rt;

@@ -8,4 +8,6 @@ mod encoding;
 #[cfg(test)]
 mod feed;
 #[cfg(test)]
+mod given;
+#[cfg(test)]
 mod lines;

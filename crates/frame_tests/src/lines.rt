@@ -1,12 +1,9 @@
 //! Lines in memory: faithful ones, ones that fail at a listed call, and ones that lie.
+use crate::given::member;
 use line_fakes::{LieLines, LineFail, MemLines, SureLines, Way};
 use std::test::Fail;
-use upd_base::{EdgeFault, MemberId};
+use upd_base::EdgeFault;
 use upd_lines::{Line, LineMaker};
-
-fn member(id: u8) -> Result<MemberId, Fail> {
-    Ok(MemberId::new(id).ok_or("no member")?)
-}
 
 /// Puts three bytes, and gets what comes.
 fn carried<L: Line>(line: &mut L) -> Result<[u8; 3], EdgeFault> {

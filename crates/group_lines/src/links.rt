@@ -2,17 +2,7 @@
 ghost use Rattle.std.specs.Prelude.{◌≡◌, ◌*◌, ◌<◌, ◌≤◌};
 ghost use Rattle.group_lines.specs.Visits.{LinkStands};
 
-use upd_base::MemberId;
-
-pub(crate) fn member_at(i: u8) -> MemberId
-    requires { i < 7 }
-    ensures { result ≡ i }
-{
-    match MemberId::new(i) {
-        Some(m) => m,
-        None => unreachable!(),
-    }
-}
+use upd_base::{MemberId, member_at};
 
 /// The link whose line stands at this place, among those of so many members.
 pub fn link_at(members: u8, place: usize) -> (MemberId, MemberId)

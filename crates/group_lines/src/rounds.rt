@@ -8,13 +8,13 @@ ghost use Rattle.line_rules.specs.Lines.{AreReady};
 ghost use Rattle.line_rules.specs.Rest.{IsHeldUp};
 ghost use Rattle.group_lines.specs.Visits.{IsIdle, IsLeftOut, IsLinkLeft, IsNotFull, IsRoundLeft, IsThreadLeft, LinkStands, MadeMany, Went};
 
-use crate::links::{link_at, member_at};
+use crate::links::link_at;
 use crate::visits::{force_call, visit_line, visit_member, visit_thread};
 use line_rules::LineState;
 use order_trait::Ordering;
 use run_journal::Journal;
 use std::alloc::Global;
-use upd_base::NoMemory;
+use upd_base::{NoMemory, member_at};
 use upd_lines::Line;
 
 /// Makes rounds until one makes no event, and no call is left either.

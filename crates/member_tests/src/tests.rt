@@ -8,7 +8,7 @@ use order_trait::Ordering;
 use sequencer_order::SequencerOrder;
 use std::alloc::Global;
 use std::test::*;
-use upd_base::{Answer, Body, Call, Entry, Frame, Item, Kind, Log, MemberId, Text};
+use upd_base::{Answer, Body, Call, Frame, Kind, MemberId, Text};
 
 pub(crate) type One = Member<SequencerOrder>;
 
@@ -223,20 +223,5 @@ fn prepared_and_committed(rt: HostRuntime) -> Result<(), Fail> {
     assert_eq!(rt; (to, frame.version), (member(0)?, 0));
     assert!(rt; matches!(&frame.body, Body::Ask { .. }));
     assert!(rt; sent.drain_first().is_none());
-    Ok(())
-}
-
-#[test]
-fn a_log_with_room(rt: HostRuntime) -> Result<(), Fail> {
-    let alloc = rt.alloc();
-    let mut log = Log::new(alloc);
-    let item = Item::Switch {
-        origin: member(0)?,
-        number: 0,
-        kind: Kind::Lamport,
-    };
-    log.reserve(1)?;
-    log.push_ready(Entry { version: 0, item });
-    assert_eq!(rt; log.len(), 1);
     Ok(())
 }

@@ -1,22 +1,15 @@
 //! Words of the command line, and what they ask for.
+use crate::given::words_of;
 use program_words::{Command, Form, Generate, LineKind, Rehearse, Run, command_of, run_of};
 use std::alloc::Global;
 use std::test::*;
 
-fn given(alloc: Global, words: &[&str]) -> Result<Vec<String>, Fail> {
-    let mut given = Vec::new(alloc);
-    for word in words {
-        given.push(String::from_str(alloc, word)?)?;
-    }
-    Ok(given)
-}
-
 fn asked(alloc: Global, words: &[&str]) -> Result<Option<Command>, Fail> {
-    Ok(command_of(given(alloc, words)?.as_slice()))
+    Ok(command_of(words_of(alloc, words)?.as_slice()))
 }
 
 fn asked_run(alloc: Global, words: &[&str]) -> Result<Option<Run>, Fail> {
-    Ok(run_of(given(alloc, words)?.as_slice()))
+    Ok(run_of(words_of(alloc, words)?.as_slice()))
 }
 
 #[test]

@@ -12,11 +12,11 @@ ghost use Rattle.group_world.specs.Stands.{Stands};
 ghost use Rattle.run_journal.specs.Asked.{AreAsked};
 
 use crate::faults::{CallFault, ReceiveFault, ReleaseFault};
-use crate::making::{advance, answer_of, compare, make_room, member_at, no_lists, note};
+use crate::making::{advance, answer_of, compare, make_room, no_lists, note};
 use group_world::{Move, World};
 use order_trait::Ordering;
 use std::alloc::Global;
-use upd_base::{Answer, Call, Event, Frame, Kind, Log, MemberId, NoMemory, Plan, Step};
+use upd_base::{Answer, Call, Event, Frame, Kind, Log, MemberId, NoMemory, Plan, Step, member_at};
 
 /// The recorded run of a plan: its events from the opening, which number at most the plan's bound, and the world that they
 /// leave.

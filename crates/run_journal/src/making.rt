@@ -99,14 +99,3 @@ pub(crate) fn no_lists(alloc: Global, n: u8) -> Result<Vec<Vec<u16>>, NoMemory>
     }
     Ok(lists)
 }
-
-/// The member of this number.
-pub(crate) fn member_at(i: u8) -> MemberId
-    requires { i < 7 }
-    ensures { result ≡ i }
-{
-    match MemberId::new(i) {
-        Some(m) => m,
-        None => unreachable!(),
-    }
-}

@@ -33,7 +33,7 @@ pub use limits::{
     MAX_VERSION,
 };
 pub use log::Log;
-pub use member::MemberId;
+pub use member::{MemberId, member_at};
 pub use no_memory::NoMemory;
 pub use plan::Plan;
 pub use text::{Text, is_printable};

@@ -43,3 +43,11 @@ impl MemberId {
         self.id
     }
 }
+
+/// The member of this number, which is known to be below 7.
+pub fn member_at(id: u8) -> MemberId
+    requires { id < 7 }
+    ensures { result ≡ id }
+{
+    MemberId { id }
+}

@@ -1,6 +1,6 @@
 //! One thread makes all calls and receipts, over lines that carry all, that are missing, that lie and that fail.
 use crate::making::{journal, lines, member};
-use group_lines::{Ran, finish};
+use group_lines::{Ran, finish, link_at};
 use line_fakes::{LieLines, LineFail, MemLines, SureLines, Way};
 use line_rules::RunEnd;
 use std::alloc::Global;
@@ -16,6 +16,12 @@ fn end_over<M: LineMaker>(
     let lines = lines(alloc, maker, missing)?;
     let Ran { journal, end, .. } = finish(alloc, journal(alloc, false)?, lines);
     Ok((end, journal.len()))
+}
+
+#[test]
+fn the_link_of_a_place(rt: HostRuntime) -> Result<(), Fail> {
+    assert!(rt; link_at(3, 5) == (member(1)?, member(2)?));
+    Ok(())
 }
 
 #[test]
