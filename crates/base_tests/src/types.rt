@@ -108,3 +108,18 @@ fn logs(rt: HostRuntime) -> Result<(), Fail> {
     assert_eq!(rt; log.at(1).item, log.at(0).item);
     Ok(())
 }
+
+#[test]
+fn the_first_entry_into_reserved_room(rt: HostRuntime) -> Result<(), Fail> {
+    let alloc = rt.alloc();
+    let mut log = Log::new(alloc);
+    log.reserve(1)?;
+    assert!(rt; log.is_empty());
+    log.push_ready(Entry {
+        version: 0,
+        item: message(alloc, 1, 0)?,
+    });
+    assert!(rt; log.len() == 1);
+    assert_eq!(rt; log.at(0).item, message(alloc, 1, 0)?);
+    Ok(())
+}

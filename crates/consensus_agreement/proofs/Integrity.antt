@@ -8,7 +8,7 @@ use Rattle.fifo_net.proofs.Lists.{Contains-prefix}
 use Rattle.upd_base.specs.Item.{stands_before}
 use Rattle.upd_base.specs.declared.item.Item.{Item}
 use Rattle.upd_base.specs.declared.body.Body.{Body}
-use Rattle.upd_base.specs.declared.body.Body.TheVariants.{Ask, Ord, Req, Ack, Rb, Est, Prop, Reply, Next, Decide}
+use Rattle.upd_base.specs.declared.body.Body.TheVariants.{Ask, Ord, Req, Ack, Rb, Est, Prop, Reply, Next, Decide, Past}
 use Rattle.order_trait.specs.Runs.{Order, Broadcast, Suspect, Trust, Inputs, Steps, StepsFit, broadcast_at, broadcast_in}
 use Rattle.order_trait.specs.Outbox.{to_all}
 use Rattle.instance_rules.specs.Say.{Items, Starts, Say, Estimates, Proposes, Replies, Moves_on, Decides, Turns}
@@ -109,6 +109,7 @@ rb_from (Ask item) x h = none x h
 rb_from (Ord p item) x h = none x h
 rb_from (Req stamp item) x h = none x h
 rb_from (Ack stamp) x h = none x h
+rb_from Past x h = none x h
 rb_from (Rb item) x h = ap (λ z. Rb z) (one item x h)
 rb_from (Est instance round stamp batch) x h = none x h
 rb_from (Prop instance round batch) x h = none x h
@@ -140,6 +141,7 @@ RbOk y (Ask item) = Unit {0}
 RbOk y (Ord p item) = Unit {0}
 RbOk y (Req stamp item) = Unit {0}
 RbOk y (Ack stamp) = Unit {0}
+RbOk y Past = Unit {0}
 RbOk y (Est instance round stamp batch) = Unit {0}
 RbOk y (Prop instance round batch) = Unit {0}
 RbOk y (Reply instance round agree) = Unit {0}
@@ -170,6 +172,7 @@ passes_ok n from past (Ask item) = All-nil (λ p. RbOk (Took from (Ask item)) p.
 passes_ok n from past (Ord p item) = All-nil (λ q. RbOk (Took from (Ord p item)) q.1)
 passes_ok n from past (Req stamp item) = All-nil (λ p. RbOk (Took from (Req stamp item)) p.1)
 passes_ok n from past (Ack stamp) = All-nil (λ p. RbOk (Took from (Ack stamp)) p.1)
+passes_ok n from past Past = All-nil (λ p. RbOk (Took from Past) p.1)
 passes_ok n from past (Rb item) =
     cond_both (knows (received past) item || knows (begun past) item) [] (to_all n (Rb item)) (All (λ p. RbOk (Took from (Rb item)) p.1))
     (λ t. All-nil (λ p. RbOk (Took from (Rb item)) p.1))

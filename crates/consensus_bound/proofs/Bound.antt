@@ -11,7 +11,7 @@ use Rattle.fifo_net.proofs.Lists.{Contains-prefix}
 use Rattle.upd_base.specs.Item.{id_of, has_id}
 use Rattle.upd_base.specs.declared.item.Item.{Item}
 use Rattle.upd_base.specs.declared.body.Body.{Body}
-use Rattle.upd_base.specs.declared.body.Body.TheVariants.{Ask, Ord, Req, Ack, Rb, Est, Prop, Reply, Next, Decide}
+use Rattle.upd_base.specs.declared.body.Body.TheVariants.{Ask, Ord, Req, Ack, Rb, Est, Prop, Reply, Next, Decide, Past}
 use Rattle.order_trait.specs.Runs.{Order, Broadcast, Suspect, Trust, Inputs, Steps, StepsFit, InputFits, broadcast_at, broadcast_in, suspects, suspects_in, sent_in, KeepsBound}
 use Rattle.order_trait.specs.Outbox.{to_all}
 use Rattle.order_trait.proofs.Sums.{sum_below, sum_below-none, sum_below-same, sum_below-le, sum_below-more}
@@ -87,6 +87,7 @@ InRange top (Ask item) = ⊥
 InRange top (Ord p item) = ⊥
 InRange top (Req stamp item) = ⊥
 InRange top (Ack stamp) = ⊥
+InRange top Past = ⊥
 InRange top (Rb item) = Unit {0}
 InRange top (Est instance round stamp batch) = (1 ≤ instance) × (instance ≤ top)
 InRange top (Prop instance round batch) = (1 ≤ instance) × (instance ≤ top)
@@ -99,6 +100,7 @@ higher low top (Ask item) le h = h
 higher low top (Ord p item) le h = h
 higher low top (Req stamp item) le h = h
 higher low top (Ack stamp) le h = h
+higher low top Past le h = h
 higher low top (Rb item) le h = tt
 higher low top (Est instance round stamp batch) le h = let l : instance ≤ low = h.1 in (h.0, omega arith)
 higher low top (Prop instance round batch) le h = let l : instance ≤ low = h.1 in (h.0, omega arith)
@@ -122,6 +124,7 @@ passes_range top n past (Ask item) = All-nil (λ p. InRange top p.1)
 passes_range top n past (Ord p item) = All-nil (λ p. InRange top p.1)
 passes_range top n past (Req stamp item) = All-nil (λ p. InRange top p.1)
 passes_range top n past (Ack stamp) = All-nil (λ p. InRange top p.1)
+passes_range top n past Past = All-nil (λ p. InRange top p.1)
 passes_range top n past (Rb item) = cond_both (knows (received past) item || knows (begun past) item) [] (to_all n (Rb item)) (All (λ p. InRange top p.1)) (λ t. All-nil (λ p. InRange top p.1)) (λ t. all_to (λ p. InRange top p.1) n (Rb item) (λ to. tt))
 passes_range top n past (Est instance round stamp batch) = All-nil (λ p. InRange top p.1)
 passes_range top n past (Prop instance round batch) = All-nil (λ p. InRange top p.1)
@@ -134,6 +137,7 @@ heard_range top n me from (Ask item) past h = All-nil (λ p. InRange top p.1)
 heard_range top n me from (Ord p item) past h = All-nil (λ p. InRange top p.1)
 heard_range top n me from (Req stamp item) past h = All-nil (λ p. InRange top p.1)
 heard_range top n me from (Ack stamp) past h = All-nil (λ p. InRange top p.1)
+heard_range top n me from Past past h = All-nil (λ p. InRange top p.1)
 heard_range top n me from (Rb item) past h = All-nil (λ p. InRange top p.1)
 heard_range top n me from (Est k round stamp batch) past h = All-append (λ p. InRange top p.1) (hears_one n me from (Est k round stamp batch) past k) [] (instance_range top k (says_on n me (hears from (say_of k (Est k round stamp batch))) (turns_of n k past)) h.0 h.1) (All-nil (λ p. InRange top p.1))
 heard_range top n me from (Prop k round batch) past h = All-append (λ p. InRange top p.1) (hears_one n me from (Prop k round batch) past k) [] (instance_range top k (says_on n me (hears from (say_of k (Prop k round batch))) (turns_of n k past)) h.0 h.1) (All-nil (λ p. InRange top p.1))
@@ -226,6 +230,7 @@ by_body top to (Ask item) ps h = absurd h
 by_body top to (Ord p item) ps h = absurd h
 by_body top to (Req stamp item) ps h = absurd h
 by_body top to (Ack stamp) ps h = absurd h
+by_body top to Past ps h = absurd h
 by_body top to (Rb item) ps h = omega (arith, none_more top (to, Rb item) ps (λ j. refl))
 by_body top to (Est k round stamp batch) ps h = omega (arith, one_more top k (to, Est k round stamp batch) ps h.0 h.1 (ap is_some (cond-true (eqb k k) (Some (Estimates round (record { stamp = stamp; batch = batch }))) None (eq-eqb k k refl))) (λ j ne. unsaid j (Est k round stamp batch) (single k j ne)))
 by_body top to (Prop k round batch) ps h = omega (arith, one_more top k (to, Prop k round batch) ps h.0 h.1 (ap is_some (cond-true (eqb k k) (Some (Proposes round batch)) None (eq-eqb k k refl))) (λ j ne. unsaid j (Prop k round batch) (single k j ne)))
@@ -278,6 +283,7 @@ rbs_passed n past (Ask item) = omega arith
 rbs_passed n past (Ord p item) = omega arith
 rbs_passed n past (Req stamp item) = omega arith
 rbs_passed n past (Ack stamp) = omega arith
+rbs_passed n past Past = omega arith
 rbs_passed n past (Rb item) =
     elim (knows (received past) item || knows (begun past) item) as (λ b. rbs (cond b [] (to_all n (Rb item))) ≡ n * length (cond b [] (item ∷ []))) [
       | true ↦ omega arith
@@ -351,6 +357,7 @@ told_known (Took from body ∷ past) x h =
     now (Ord p item) e = absurd (true≢false (sym e))
     now (Req stamp item) e = absurd (true≢false (sym e))
     now (Ack stamp) e = absurd (true≢false (sym e))
+    now Past e = absurd (true≢false (sym e))
     now (Rb item) e =
         cond_both (knows (received past) item || knows (begun past) item) [] (item ∷ []) (λ l. knows l x ≡ true → knows (add_new (received past) (item ∷ [])) x ≡ true)
         (λ t g. absurd (true≢false (sym g)))
@@ -414,6 +421,7 @@ told_new n past run j (Took from body) fit id h = by_body_of body
     by_body_of (Ord p item) = stay_same
     by_body_of (Req stamp item) = stay_same
     by_body_of (Ack stamp) = stay_same
+    by_body_of Past = stay_same
     by_body_of (Rb item) =
         cond_both (knows (received (inputs_of j past)) item || knows (begun (inputs_of j past)) item) [] (item ∷ []) (λ l. count_by (has_id id) (told (inputs_of j past) ++ l) ≤ 1)
         (λ t. stay_same)

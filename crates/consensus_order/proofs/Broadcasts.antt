@@ -4,7 +4,7 @@ use Rattle.std.proofs.lemmas.List.Folds.{list_any-append}
 use Rattle.fifo_net.specs.Net.{Called, Took}
 use Rattle.upd_base.specs.Item.{id_of, has_id}
 use Rattle.upd_base.specs.declared.item.Item.{Item}
-use Rattle.upd_base.specs.declared.body.Body.TheVariants.{Ask, Ord, Req, Ack, Rb, Est, Prop, Reply, Next, Decide}
+use Rattle.upd_base.specs.declared.body.Body.TheVariants.{Ask, Ord, Req, Ack, Rb, Est, Prop, Reply, Next, Decide, Past}
 use Rattle.order_trait.specs.Runs.{Broadcast, Suspect, Trust, Inputs}
 use Rattle.reliable_bcast.specs.Rb.{was_received, was_started}
 use Rattle.consensus_rules.specs.Items.{knows, received, begun}
@@ -26,6 +26,7 @@ received_are (Took from (Ask item) ∷ past) x = received_are past x
 received_are (Took from (Ord place item) ∷ past) x = received_are past x
 received_are (Took from (Req stamp item) ∷ past) x = received_are past x
 received_are (Took from (Ack stamp) ∷ past) x = received_are past x
+received_are (Took from Past ∷ past) x = received_are past x
 received_are (Took from (Rb item) ∷ past) x =
     ap (λ b. cond (has_id (id_of x) item) true b) (received_are past x)
     ∙ either (has_id (id_of x) item) (knows (received past) x) ∙ sym (knows_one (received past) item x)
@@ -51,6 +52,7 @@ begun_are (Took from (Ask item) ∷ past) x = begun_are past x
 begun_are (Took from (Ord place item) ∷ past) x = begun_are past x
 begun_are (Took from (Req stamp item) ∷ past) x = begun_are past x
 begun_are (Took from (Ack stamp) ∷ past) x = begun_are past x
+begun_are (Took from Past ∷ past) x = begun_are past x
 begun_are (Took from (Rb item) ∷ past) x = begun_are past x
 begun_are (Took from (Est instance round stamp batch) ∷ past) x = begun_are past x
 begun_are (Took from (Prop instance round batch) ∷ past) x = begun_are past x

@@ -7,7 +7,7 @@ use Rattle.std.proofs.lemmas.Bool.{cases_Bool, cases_eq, cond-true, cond-false, 
 use Rattle.fifo_net.specs.Net.{Input, Took}
 use Rattle.upd_base.specs.declared.item.Item.{Item}
 use Rattle.upd_base.specs.declared.body.Body.{Body}
-use Rattle.upd_base.specs.declared.body.Body.TheVariants.{Ask, Ord, Req, Ack, Rb, Est, Prop, Reply, Next, Decide}
+use Rattle.upd_base.specs.declared.body.Body.TheVariants.{Ask, Ord, Req, Ack, Rb, Est, Prop, Reply, Next, Decide, Past}
 use Rattle.order_trait.specs.Runs.{Inputs}
 use Rattle.order_trait.specs.Outbox.{to_all}
 use Rattle.reliable_bcast.specs.Rb as rb
@@ -84,6 +84,7 @@ names k from (Ask item) past e = no_number k e
 names k from (Ord place item) past e = no_number k e
 names k from (Req stamp item) past e = no_number k e
 names k from (Ack stamp) past e = no_number k e
+names k from Past past e = no_number k e
 names k from (Rb item) past e = no_number k e
 names k from (Est i round stamp batch) past e = record {
   no_item = refl;
@@ -263,6 +264,7 @@ is_rb (Ask x) item e = absurd cc
 is_rb (Ord p x) item e = absurd cc
 is_rb (Req s x) item e = absurd cc
 is_rb (Ack s) item e = absurd cc
+is_rb Past item e = absurd cc
 is_rb (Rb x) item e = ap (λ z. Rb z) (same x item e)
   where
     same : (x y : Item) → x ∷ [] ≡ y ∷ [] → x ≡ y

@@ -130,7 +130,7 @@ impl Ordering for ConsensusOrder {
         Ok(())
     }
 
-    ghost use Rattle.consensus_laws.proofs.Laws.{agreement_of, integrity_of, fulfilment_of, bound_of};
+    ghost use Rattle.consensus_laws.proofs.Laws.{agreement_of, integrity_of, fulfilment_of, bound_of, never_past_of};
 
     ghost agreement = { agreement_of };
 
@@ -139,4 +139,6 @@ impl Ordering for ConsensusOrder {
     ghost fulfilment = { fulfilment_of };
 
     ghost bound = { bound_of };
+
+    ghost never_past = { never_past_of };
 }

@@ -6,7 +6,7 @@ use Rattle.std.proofs.lemmas.List.Elements.{filter_map-append}
 use Rattle.fifo_net.specs.Net.{Input, Called, Took, taken, sent, bodies_to}
 use Rattle.fifo_net.proofs.Lists.{bodies_to-append}
 use Rattle.upd_base.specs.declared.body.Body.{Body}
-use Rattle.upd_base.specs.declared.body.Body.TheVariants.{Ask, Ord, Req, Ack, Rb, Est, Prop, Reply, Next, Decide}
+use Rattle.upd_base.specs.declared.body.Body.TheVariants.{Ask, Ord, Req, Ack, Rb, Est, Prop, Reply, Next, Decide, Past}
 use Rattle.order_trait.specs.Runs.{Order, Broadcast, Suspect, Trust, Inputs}
 use Rattle.order_trait.specs.Outbox.{to_all}
 use Rattle.instance_rules.specs.Say.{Starts, Suspects, Trusts, Say, Estimates, Proposes, Replies, Moves_on, Decides, Turns}
@@ -173,6 +173,7 @@ unsaid k (Ask item) e = refl
 unsaid k (Ord p item) e = refl
 unsaid k (Req stamp item) e = refl
 unsaid k (Ack stamp) e = refl
+unsaid k Past e = refl
 unsaid k (Rb item) e = refl
 unsaid k (Est instance round stamp batch) e = cond-false (eqb instance k) (Some (Estimates round (record { stamp = stamp; batch = batch }))) None (or_parts (eqb instance k) false e).0
 unsaid k (Prop instance round batch) e = cond-false (eqb instance k) (Some (Proposes round batch)) None (or_parts (eqb instance k) false e).0
@@ -246,6 +247,7 @@ one_number (Ask item) = tt
 one_number (Ord p item) = tt
 one_number (Req stamp item) = tt
 one_number (Ack stamp) = tt
+one_number Past = tt
 one_number (Rb item) = tt
 one_number (Est instance round stamp batch) = (omega arith, tt)
 one_number (Prop instance round batch) = (omega arith, tt)
@@ -258,6 +260,7 @@ passes_unsaid k n past (Ask item) = refl
 passes_unsaid k n past (Ord p item) = refl
 passes_unsaid k n past (Req stamp item) = refl
 passes_unsaid k n past (Ack stamp) = refl
+passes_unsaid k n past Past = refl
 passes_unsaid k n past (Rb item) =
     cond_both (knows (received past) item || knows (begun past) item) [] (to_all n (Rb item)) (λ l. pick k l ≡ []) (λ t. refl) (λ t. pick_none k n (Rb item) refl)
 passes_unsaid k n past (Est instance round stamp batch) = refl

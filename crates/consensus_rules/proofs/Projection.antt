@@ -5,7 +5,7 @@ use Rattle.std.proofs.lemmas.List.Elements.{filter_map-append}
 use Rattle.fifo_net.specs.Net.{Input, Called, Took, taken, sent, inputs_of, taken_on, sent_on, IsPrefix, MayCome, IsRun}
 use Rattle.fifo_net.proofs.Links.{inputs_here, inputs_away}
 use Rattle.upd_base.specs.declared.body.Body.{Body}
-use Rattle.upd_base.specs.declared.body.Body.TheVariants.{Ask, Ord, Req, Ack, Rb, Est, Prop, Reply, Next, Decide}
+use Rattle.upd_base.specs.declared.body.Body.TheVariants.{Ask, Ord, Req, Ack, Rb, Est, Prop, Reply, Next, Decide, Past}
 use Rattle.order_trait.specs.Runs.{Order, Broadcast, Suspect, Trust, Inputs, Steps, StepsFit, InputFits}
 use Rattle.instance_rules.specs.Say.{Items, Starts, Say, Estimates, Proposes, Replies, Moves_on, Decides, Turns}
 use Rattle.instance_rules.specs.History.{decides, decided, or_else}
@@ -145,6 +145,7 @@ decide_said k (Ask item) = refl
 decide_said k (Ord p item) = refl
 decide_said k (Req stamp item) = refl
 decide_said k (Ack stamp) = refl
+decide_said k Past = refl
 decide_said k (Rb item) = refl
 decide_said k (Est instance round stamp batch) = cond_both (eqb instance k) (Some (Estimates round (record { stamp = stamp; batch = batch }))) None (λ o. None ≡ decides_in o) (λ t. refl) (λ t. refl)
 decide_said k (Prop instance round batch) = cond_both (eqb instance k) (Some (Proposes round batch)) None (λ o. None ≡ decides_in o) (λ t. refl) (λ t. refl)

@@ -4,7 +4,7 @@ use Rattle.std.proofs.lemmas.Bool.{cases_Bool, cond_both, cond-true, cond-false}
 use Rattle.fifo_net.specs.Net.{Input, Called, Took, inputs_of}
 use Rattle.upd_base.specs.declared.kind.Kind.TheVariants.{Consensus}
 use Rattle.upd_base.specs.declared.body.Body.{Body}
-use Rattle.upd_base.specs.declared.body.Body.TheVariants.{Ask, Ord, Req, Ack, Rb, Est, Prop, Reply, Next, Decide}
+use Rattle.upd_base.specs.declared.body.Body.TheVariants.{Ask, Ord, Req, Ack, Rb, Est, Prop, Reply, Next, Decide, Past}
 use Rattle.order_trait.specs.Runs.{Order, Broadcast, Suspect, Trust, Inputs, Steps, IsModuleRun}
 use Rattle.instance_rules.specs.Say.{Items, Starts, Say, Decides, Turns}
 use Rattle.instance_rules.specs.History.{or_else}
@@ -37,6 +37,7 @@ plain k ds (Ask item) say e und = none_is_some say e
 plain k ds (Ord p item) say e und = none_is_some say e
 plain k ds (Req stamp item) say e und = none_is_some say e
 plain k ds (Ack stamp) say e und = none_is_some say e
+plain k ds Past say e und = none_is_some say e
 plain k ds (Rb item) say e und = none_is_some say e
 plain k ds (Est instance round stamp batch) say e und = record { no_decide = refl; no_item = refl }
 plain k ds (Prop instance round batch) say e und = record { no_decide = refl; no_item = refl }

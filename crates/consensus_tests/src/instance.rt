@@ -165,3 +165,27 @@ fn suspected_later(rt: HostRuntime) -> Result<(), Fail> {
     assert_eq!(rt; instance.round(), 2);
     Ok(())
 }
+
+#[test]
+fn two_suspected(rt: HostRuntime) -> Result<(), Fail> {
+    let alloc = rt.alloc();
+    let mut out = Outbox::new(alloc);
+    let mut instance = started(alloc, 3, 2, &[false; 7], &mut out)?;
+    let first = [true, false, false, false, false, false, false];
+    assert!(rt; instance.suspect(alloc, &first, &mut out).is_ok());
+    for _ in 0..3u8 {
+        let _ = out.drain_first();
+    }
+    assert!(rt; out.drain_first().is_none());
+    let both = [true, true, false, false, false, false, false];
+    assert!(rt; instance.suspect(alloc, &both, &mut out).is_ok());
+    assert_eq!(rt; out.drain_first(), Some((member(1)?, reply(2, false))));
+    assert_eq!(rt;
+        out.drain_first(),
+        Some((member(2)?, estimate(alloc, 3, 3)?))
+    );
+    assert!(rt; out.drain_first().is_none());
+    assert_eq!(rt; instance.round(), 3);
+    assert!(rt; instance.decided().is_none());
+    Ok(())
+}

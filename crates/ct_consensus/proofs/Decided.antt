@@ -1,7 +1,7 @@
 use Rattle.std.proofs.Common.{ℕ, ◌≡◌, eqb, Bool, true, false, cond, List, [], ◌∷◌, ◌++◌, Some, None, refl, sym, ap, ◌∙◌, subst}
 use Rattle.std.specs.Option.{is_some}
 use Rattle.fifo_net.specs.Net.{Input, Called, Took}
-use Rattle.upd_base.specs.declared.body.Body.TheVariants.{Ask, Ord, Req, Ack, Rb, Est, Prop, Reply, Next, Decide}
+use Rattle.upd_base.specs.declared.body.Body.TheVariants.{Ask, Ord, Req, Ack, Rb, Est, Prop, Reply, Next, Decide, Past}
 use Rattle.instance_rules.specs.Say.{Items, Act, Say, Estimates, Proposes, Replies, Moves_on, Decides, Turns}
 use Rattle.instance_rules.specs.Bodies.{say_of}
 use Rattle.instance_rules.specs.History.{decided, decides, or_else}
@@ -61,6 +61,7 @@ no_decision k (Ask item) say e other = none_said say e
 no_decision k (Ord at item) say e other = none_said say e
 no_decision k (Req stamp item) say e other = none_said say e
 no_decision k (Ack stamp) say e other = none_said say e
+no_decision k Past say e other = none_said say e
 no_decision k (Rb item) say e other = none_said say e
 no_decision k (Est instance round stamp batch) say e other = said_none (eqb instance k) (Estimates round (record { stamp = stamp; batch = batch })) say refl e
 no_decision k (Prop instance round batch) say e other = said_none (eqb instance k) (Proposes round batch) say refl e

@@ -415,6 +415,7 @@ impl Running {
             | Body::Ord { .. }
             | Body::Req { .. }
             | Body::Ack { .. }
+            | Body::Past
             | Body::Rb { .. } => Ok(()),
         }
     }

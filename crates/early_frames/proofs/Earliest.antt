@@ -4,7 +4,7 @@ use Rattle.std.specs.Prelude.{nat_le}
 use Rattle.std.proofs.lemmas.Bool.{leb-true, leb-false, le-leb, cases_Bool, false_from_ne_true, true≢false}
 use Rattle.std.proofs.lemmas.List.Elements.{All-nil, All-head, All-tail, All-cons, All-weaker}
 use Rattle.early_frames.specs.declared.arrivals.Arrival.{Arrival}
-use Rattle.early_frames.specs.Held.{first_ready, without_ready}
+use Rattle.group_run.specs.Held.{first_ready, without_ready}
 use Rattle.early_frames.specs.Arrivals.{version_of, among, by_arrival}
 use Rattle.early_frames.proofs.Order.{all_among, all_by_arrival, reached}
 

@@ -6,7 +6,7 @@ use Rattle.std.proofs.lemmas.Bool.{le-leb, lt-leb, cases_Bool}
 use Rattle.std.proofs.lemmas.List.{map-append}
 use Rattle.std.proofs.lemmas.List.Elements.{All-head, All-tail, All-cons}
 use Rattle.early_frames.specs.declared.arrivals.Arrival.{Arrival}
-use Rattle.early_frames.specs.Held.{first_ready, without_ready, waits}
+use Rattle.group_run.specs.Held.{first_ready, without_ready, waits}
 use Rattle.early_frames.specs.Arrivals.{version_of, among, by_arrival, frames_of}
 
 -- What holds of each holds of each in the order of arrival ------------------------------------------------------------

@@ -12,7 +12,7 @@ use Rattle.std.proofs.lemmas.List.Folds.{list_any_at, list_any_none}
 use Rattle.std.proofs.lemmas.List.Elements.{All-append, All-cons, All-take, All-drop, All-weaker}
 use Rattle.early_frames.specs.declared.arrivals.Arrival.{Arrival}
 use Rattle.early_frames.specs.Arrivals.{version_of, by_arrival, frames_of, Precedes, IsEarliest}
-use Rattle.early_frames.specs.Held.{first_ready, without_ready, waits}
+use Rattle.group_run.specs.Held.{first_ready, without_ready, waits}
 use Rattle.early_frames.proofs.Order.{newest_frames, ready_is, reached, matches, waits_is}
 use Rattle.early_frames.proofs.Earliest.{Parts, parts_of, first_of_parts, rest_of_parts, head_of_parts}
 

@@ -3,7 +3,7 @@ ghost use Rattle.std.specs.Prelude.{ℕ, ◌≡◌, ◌<◌, ◌≤◌, ◌+◌,
 ghost use Rattle.std.specs.List.{AllWithin};
 ghost use Rattle.std.specs.VecDeque.{deque_len, deque_capacity};
 ghost use Rattle.early_frames.specs.Arrivals.{frames_of, version_of, IsEarliest, Precedes};
-ghost use Rattle.early_frames.specs.Held.{first_ready, waits, without_ready};
+ghost use Rattle.group_run.specs.Held.{first_ready, waits, without_ready};
 
 use std::collections::VecDeque;
 use upd_base::{Frame, MemberId};

@@ -1,6 +1,6 @@
 //! Frames that came before their version was reached, and the release of the earliest whose version now is.
 ghost use Rattle.std.specs.Prelude.{◌≡◌, ◌≤◌, ◌+◌, [], ◌∷◌, ◌++◌, OnOk, OnErr, is_some, option_copied};
-ghost use Rattle.early_frames.specs.Held.{first_ready, waits, without_ready};
+ghost use Rattle.group_run.specs.Held.{first_ready, waits, without_ready};
 
 use crate::arrivals::{Arrival, first_among, is_reached, put, take_first, waits_among};
 use crate::numbers::renumber;

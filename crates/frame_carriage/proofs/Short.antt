@@ -11,7 +11,7 @@ use Rattle.upd_base.specs.declared.kind.Kind.TheVariants.{Sequencer, Lamport, Co
 use Rattle.upd_base.specs.declared.item.Item.{Item}
 use Rattle.upd_base.specs.declared.item.Item.TheVariants.{Msg, Switch}
 use Rattle.upd_base.specs.declared.body.Body.{Body}
-use Rattle.upd_base.specs.declared.body.Body.TheVariants.{Ask, Ord, Req, Ack, Rb, Est, Prop, Reply, Next, Decide}
+use Rattle.upd_base.specs.declared.body.Body.TheVariants.{Ask, Ord, Req, Ack, Rb, Est, Prop, Reply, Next, Decide, Past}
 use Rattle.upd_base.specs.declared.frame.Frame.{Frame}
 use Rattle.upd_base.specs.declared.limits.TheConstants.{MAX_PAYLOAD, MAX_BATCH}
 use Rattle.upd_frame.specs.Spelling.{digits, kind_bytes, item_bytes, batch_bytes, body_bytes, spelling, IsItem, IsBatch, IsBody, IsFrame}
@@ -75,6 +75,7 @@ short_body (Prop instance round batch) within = simp length-append (omega (arith
 short_body (Reply instance round accepts) within = simp length-append (omega (arith, eight instance, eight round))
 short_body (Next instance round) within = simp length-append (omega (arith, eight instance, eight round))
 short_body (Decide instance batch) within = simp length-append (omega (arith, eight instance, short_batch batch within.1))
+short_body Past within = omega arith
 
 pub short : (f : Frame) → IsFrame f → length (spelling f) ≤ MAX_FRAME
 unfolding spelling

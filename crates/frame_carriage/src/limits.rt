@@ -97,6 +97,7 @@ fn body_keeps_limits(body: &Body)
             let _count = *instance;
             batch_keeps_limits(batch);
         }
+        Body::Past => {}
     }
 }
 

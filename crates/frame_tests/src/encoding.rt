@@ -52,6 +52,8 @@ fn one_byte_changed(rt: HostRuntime) -> Result<(), Fail> {
     let alloc = rt.alloc();
     let cases = [
         (2, 0, "BadTag(2)"),
+        (2, 11, "LongTail(3)"),
+        (2, 12, "BadTag(2)"),
         (4, 7, "BadNumber(4)"),
         (10, 0, "BadNumber(9)"),
         (11, 0x7f, "BadText(11)"),
@@ -90,6 +92,14 @@ fn examples(rt: HostRuntime) -> Result<(), Fail> {
         0u8, 2, 8, 0, 0, 0, 0, 0, 0, 0, 1, 0, 0, 0, 0, 0, 0, 0, 1, 1,
     ]?;
     assert_eq!(rt; encode(alloc, &reply)?, bytes);
+    let past = Frame {
+        version: 1,
+        body: Body::Past,
+    };
+    let bytes = vec![in alloc; 0u8, 1, 11]?;
+    assert_eq!(rt; encode(alloc, &past)?, bytes);
+    let again = decode(alloc, bytes.as_slice()).ok().ok_or("a frame")?;
+    assert!(rt; again == past);
     Ok(())
 }
 

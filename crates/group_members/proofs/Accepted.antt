@@ -6,7 +6,7 @@ use Rattle.fifo_net.specs.Net.{Called, Took, Step}
 use Rattle.order_trait.specs.Runs.{Suspect as SuspectOrder, Trust as TrustOrder, Broadcast}
 use Rattle.upd_base.specs.Item.{origin_of}
 use Rattle.upd_base.specs.Plan.{Planned, planned}
-use Rattle.upd_base.proofs.PlanFacts.{PlanFacts, planned_member}
+use Rattle.upd_base.proofs.PlanFacts.{OpenFacts, planned_member}
 use Rattle.upd_base.specs.declared.item.Item.{Item}
 use Rattle.upd_base.specs.declared.item.Item.TheVariants.{Msg, Switch}
 use Rattle.upd_base.specs.declared.frame.Frame.{Frame}
@@ -81,7 +81,7 @@ alike_same rules plan past s e i = elim (same_or i s.at) [
 ]
 
 -- an enabled call
-alike_call : (rules : Rules) (plan : Planned) (past : Events) (thread index member : ℕ) (given : Answer) (o : Option PlannedStep) → PlanFacts plan → planned plan thread index ≡ o →
+alike_call : (rules : Rules) (plan : Planned) (past : Events) (thread index member : ℕ) (given : Answer) (o : Option PlannedStep) → OpenFacts plan → planned plan thread index ≡ o →
     IsCall rules plan past thread index member given o → AcceptedAlike rules plan past →
     ((i : ℕ) (y : Item) → Contains (turn_at (group rules plan) (call_made member o (moves_in rules plan past)) i).part.accepted y → Contains (accepted_at member o given ++ accepted_in plan past) y)
     × ((y : Item) → Contains (accepted_at member o given ++ accepted_in plan past) y →
@@ -130,7 +130,7 @@ alike_taken rules plan past from to (Some frame) i =
     let s : Step Outer Frame = record { at = to; input = Took from frame } in
     alike_same rules plan past s (ap (λ u. u.part.accepted) (turn_here g s (moves_in rules plan past)) ∙ took_accepted g to (turn_at g (moves_in rules plan past) to).part from frame) i
 
-pub accepted_alike : (rules : Rules) (plan : Planned) (past : Events) → PlanFacts plan → AreEnabled rules plan past → AcceptedAlike rules plan past
+pub accepted_alike : (rules : Rules) (plan : Planned) (past : Events) → OpenFacts plan → AreEnabled rules plan past → AcceptedAlike rules plan past
 accepted_alike rules plan [] f e = record { within = λ i y c. c; kept = λ y c. absurd (let l = c.1 in omega arith) }
 accepted_alike rules plan (CallEvent thread index member given ∷ past) f e =
     let r = alike_call rules plan past thread index member given (planned plan thread index) f refl e.0 (accepted_alike rules plan past f e.1) in

@@ -1,8 +1,8 @@
 -- A group run keeps what its moves keep.
 use Rattle.std.proofs.Common.{ℕ, suc, ◌≡◌, ◌<◌, ◌≤◌, ◌^◌, true, [], ◌∷◌, length, refl, arith, Option, Some, None}
 use Rattle.fifo_net.specs.Net.{inputs_of}
-use Rattle.upd_base.specs.Plan.{Planned, planned, is_plan}
-use Rattle.upd_base.proofs.PlanFacts.{PlanFacts, plan_facts, planned_member}
+use Rattle.upd_base.specs.Plan.{Planned, planned, is_open}
+use Rattle.upd_base.proofs.PlanFacts.{OpenFacts, open_facts, planned_member}
 use Rattle.upd_base.specs.declared.frame.Frame.{Frame}
 use Rattle.upd_base.specs.declared.event.Event.TheVariants.{Call as CallEvent, Receive, Release}
 use Rattle.upd_base.specs.declared.call.Step.{Step as PlannedStep}
@@ -18,11 +18,11 @@ use Rattle.group_projection.proofs.Moved.{AllMembers, world_of}
 use Rattle.group_links.proofs.Moves.{moves_run}
 use Rattle.group_projection.proofs.Kept.{Kept, kept_all, short_all}
 
-lawful : (rules : Rules) (plan : Planned) → KeepsOrder rules → PlanFacts plan → rules.serves plan.first ≡ true → Lawful (group rules plan)
+lawful : (rules : Rules) (plan : Planned) → KeepsOrder rules → OpenFacts plan → rules.serves plan.first ≡ true → Lawful (group rules plan)
 lawful rules plan k p s = record { some = p.some; few = p.few; keeps = k; serves = s; fits = p.first_fits }
 
 -- Each move is a member's; and there is at most one for each event.
-call_members : (rules : Rules) (plan : Planned) (past : Events) (thread index member : ℕ) (given : Answer) (o : Option PlannedStep) → PlanFacts plan → planned plan thread index ≡ o →
+call_members : (rules : Rules) (plan : Planned) (past : Events) (thread index member : ℕ) (given : Answer) (o : Option PlannedStep) → OpenFacts plan → planned plan thread index ≡ o →
     IsCall rules plan past thread index member given o → AllMembers plan.members (moves_in rules plan past) → AllMembers plan.members (call_made member o (moves_in rules plan past))
 call_members rules plan past thread index member given None p e c m = absurd c
 call_members rules plan past thread index member given (Some s) p e c m =
@@ -32,7 +32,7 @@ frame_members : (n from to : ℕ) (o : Option Frame) (ms : Moves) → to < n →
 frame_members n from to None ms h m = m
 frame_members n from to (Some frame) ms h m = (h, m)
 
-all_members : (rules : Rules) (plan : Planned) (past : Events) → PlanFacts plan → AreEnabled rules plan past → AllMembers plan.members (moves_in rules plan past)
+all_members : (rules : Rules) (plan : Planned) (past : Events) → OpenFacts plan → AreEnabled rules plan past → AllMembers plan.members (moves_in rules plan past)
 all_members rules plan [] p e = tt
 all_members rules plan (CallEvent thread index member given ∷ past) p e =
     call_members rules plan past thread index member given (planned plan thread index) p refl e.0 (all_members rules plan past p e.1)
@@ -59,17 +59,17 @@ moves_le g plan (Release at ∷ past) = let b = moves_le g plan past in omega ar
 
 -- What is known of a group run.
 pub record RunFacts (rules : Rules) (plan : Planned) (past : Events) : Type 0 where
-  pub plan_is : PlanFacts plan
+  pub plan_is : OpenFacts plan
   pub law : Lawful (group rules plan)
   pub members : AllMembers plan.members (moves_in rules plan past)
   pub kept : Kept (group rules plan) (moves_in rules plan past)
   pub short : (v : ℕ) → length (projection rules plan past v) < 2 ^ 40
 
-pub facts_of : (rules : Rules) → KeepsOrder rules → (plan : Planned) → rules.serves plan.first ≡ true → (past : Events) → is_plan plan ≡ true → AreEnabled rules plan past → length past ≤ 2 ^ 30 → RunFacts rules plan past
+pub facts_of : (rules : Rules) → KeepsOrder rules → (plan : Planned) → rules.serves plan.first ≡ true → (past : Events) → is_open plan ≡ true → AreEnabled rules plan past → length past ≤ 2 ^ 30 → RunFacts rules plan past
 facts_of rules k plan s past of_plan enabled few =
     let g : Group = group rules plan in
     let ms : Moves = moves_in rules plan past in
-    let p = plan_facts plan of_plan in
+    let p = open_facts plan of_plan in
     let l = lawful rules plan k p s in
     let members = all_members rules plan past p enabled in
     let less : length ms < 2 ^ 31 = let a = moves_le g plan past in omega arith in

@@ -10,3 +10,4 @@ mod CrashedSequencer
 mod CrashedSender
 mod FullMember
 mod Refused
+mod SuspectedCoordinator

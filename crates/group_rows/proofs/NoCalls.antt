@@ -1,15 +1,15 @@
 -- Two members with timestamps, and no call.
 use Rattle.std.specs.Prelude.{ℕ, zero, suc, ◌≡◌, refl, None, true, false}
 use Rattle.std.proofs.Common.{lit<, arith}
-use Rattle.upd_base.specs.Plan.{is_plan, planned}
+use Rattle.upd_base.specs.Plan.{is_open, planned}
 use Rattle.group_run.specs.Run.{IsGroupRun, IsReceipt, IsRelease, calls_made}
 use Rattle.group_run.specs.Settled.{IsSettled}
 use Rattle.group_rows.specs.Kinds.{two_kinds}
 use Rattle.group_rows.specs.Texts.{a}
 use Rattle.group_rows.specs.NoCalls.{plan, events}
 
-plan_is : is_plan plan ≡ true
-unfolding is_plan
+plan_is : is_open plan ≡ true
+unfolding is_open
 plan_is = refl
 
 pub is_run : IsGroupRun two_kinds plan events

@@ -1,7 +1,7 @@
 -- Lists of events that begin no run.
 use Rattle.std.specs.Prelude.{true, false, ◌≡◌, [], ◌∷◌, refl}
 use Rattle.std.proofs.Common.{lit<, arith}
-use Rattle.upd_base.specs.Plan.{is_plan}
+use Rattle.upd_base.specs.Plan.{is_open}
 use Rattle.upd_base.specs.declared.event.Event.TheVariants.{Call, Receive, Release}
 use Rattle.upd_base.specs.declared.answer.Answer.TheVariants.{Accepted, Done}
 use Rattle.group_run.specs.Run.{Events, IsGroupRun, AreEnabled}
@@ -21,8 +21,8 @@ other e = cc
 begins : (past : Events) → (AreEnabled two_kinds plan past → ⊥) → BeginsNoRun plan past
 begins past h later r = h (keeps_prefixes two_kinds plan later past r).enabled
 
-plan_is : is_plan plan ≡ true
-unfolding is_plan
+plan_is : is_open plan ≡ true
+unfolding is_open
 plan_is = refl
 
 -- A call, a receipt of what it sent to its own member, and the same receipt again.

@@ -12,3 +12,4 @@ pub mod CrashedSequencer
 pub mod CrashedSender
 pub mod FullMember
 pub mod OneTurn
+pub mod SuspectedCoordinator

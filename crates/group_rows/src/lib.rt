@@ -1,4 +1,5 @@
-//! Worked rows: group runs of the sequencer kinds and the kind by timestamps, computed by the definitions of a group run.
+//! Worked rows: group runs of the sequencer kinds, the kind by timestamps and, in one, the kind by consensus, computed by
+//! the definitions of a group run.
 //!
 //! The laws of group runs speak of rules that keep the laws of a kind, and of runs. Here are such rules and runs, and
 //! what the definitions make of them. A definition that broke a rule of the group would be refused by one of these rows.
@@ -16,6 +17,7 @@ pub mod one_member;
 pub mod one_turn;
 pub mod overtaken_change;
 pub mod refused_events;
+pub mod suspected_coordinator;
 pub mod two_messages;
 
 ghost use Rattle.group_run.specs.Laws.{BoundsAll, FulfilsAll, KeepsOrder};

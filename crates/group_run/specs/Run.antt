@@ -1,7 +1,7 @@
 -- A group run: the members of a plan, joined by links of frames, event by event.
 use Rattle.std.specs.Prelude.{ℕ, suc, Bool, true, false, ◌≡◌, ◌==◌, ◌<◌, ◌^◌, if◌then◌else◌, Option, Some, None, IsSome, List, [], ◌∷◌, length, slice_get}
 use Rattle.fifo_net.specs.Net.{Called, Took, Step, inputs_of, taken_on, sent_on}
-use Rattle.upd_base.specs.Plan.{Planned, is_plan, planned}
+use Rattle.upd_base.specs.Plan.{Planned, is_open, planned}
 use Rattle.upd_base.specs.declared.kind.Kind.{Kind}
 use Rattle.upd_base.specs.declared.frame.Frame.{Frame}
 use Rattle.upd_base.specs.declared.entry.Entry.{Entry}
@@ -126,6 +126,6 @@ AreEnabled rules plan (e ∷ past) = IsEnabled rules plan past e × AreEnabled r
 -- A group run of a plan: a list of events, each enabled at its place, from the opening, at which nothing was accepted,
 -- sent, held or crashed.
 pub record IsGroupRun (rules : Rules) (plan : Planned) (past : Events) : Type 0 where
-  pub of_plan : is_plan plan ≡ true
+  pub of_plan : is_open plan ≡ true
   pub short : length past < 2 ^ 30
   pub enabled : AreEnabled rules plan past

@@ -35,7 +35,7 @@ may_call G plan s thread index i step k w p e =
     record { made = omega (arith, few, within, mine); served = λ kind c. w.served thread index step p kind c }
 
 pub step_below_members : {O : Type 0} (G : Ghosts O) (plan : Planned) (s : Seen O) (thread index : ℕ) (step : Step) → IsWorldOf G plan s → planned plan thread index ≡ Some step → step.at < length s.members
-step_below_members G plan s thread index step w p = let l = planned_member plan (plan_facts plan w.of_plan) thread index step p in let m = w.many in omega arith
+step_below_members G plan s thread index step w p = let l = planned_member plan (plan_facts plan w.of_plan).open_plan thread index step p in let m = w.many in omega arith
 
 not_true : (b : Bool) → not b ≡ true → b ≡ false
 not_true true e = absurd (cc)

@@ -6,6 +6,7 @@ use Rattle.std.proofs.lemmas.List.{map-append, length-map, length-replicate, get
 use Rattle.std.proofs.lemmas.List.Elements.{All-nil}
 use Rattle.order_trait.specs.declared.ordering.Ordering.{Ghosts}
 use Rattle.upd_base.specs.Plan.{Planned, is_plan}
+use Rattle.upd_base.proofs.PlanFacts.{plan_opens}
 use Rattle.fifo_link.specs.Links.{Linked, on_link}
 use Rattle.group_run.specs.Laws.{ServesPlan}
 use Rattle.member_rules.specs.Kept.{Kept, rules_of}
@@ -54,7 +55,7 @@ opened G plan s o = record {
 
 pub stands_opened : {O : Type 0} (G : Ghosts O) (plan : Planned) (s : Seen O) → IsOpening G plan s → Stands G plan s []
 stands_opened G plan s o = record {
-  run = record { of_plan = o.of_plan; short = lit< tt; enabled = tt };
+  run = record { of_plan = plan_opens plan o.of_plan; short = lit< tt; enabled = tt };
   members = o.stand;
   links = λ from to f t. sym (o.empty from to f t);
   calls = λ thread. ap (λ l. get_or l thread 0) o.made ∙ none_made (length plan.threads) thread;

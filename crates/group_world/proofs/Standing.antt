@@ -10,6 +10,7 @@ use Rattle.upd_base.specs.declared.frame.Frame.{Frame}
 use Rattle.upd_base.specs.declared.event.Event.{Event}
 use Rattle.upd_base.specs.declared.event.Event.TheVariants.{Call as CallEvent, Receive as ReceiveEvent, Release as ReleaseEvent}
 use Rattle.upd_base.specs.Plan.{Planned}
+use Rattle.upd_base.proofs.PlanFacts.{plan_opens}
 use Rattle.group_run.specs.Group.{Group, Rules, Outer}
 use Rattle.group_run.specs.Part.{Part, version}
 use Rattle.group_run.specs.Answer.{answer}
@@ -124,7 +125,7 @@ later {O} G plan s past p grows keeps w m st short =
     at_seat G plan at k seat (λ h i. answer_of p.member ≡ answer_in h i (turn_of h i mine).part m.input) (m.prepared.answer mine own ∙ answer_same G k (part_of G k mine) m.input) in
     let known : Known G plan past at k m.input (answer_of p.member) = record { below = below; may = m.may; holds = holds; versions = m.prepared.versions; answers = answers } in
     let run : IsGroupRun rules plan (p.event ∷ past) = record {
-      of_plan = w.of_plan;
+      of_plan = plan_opens plan w.of_plan;
       short = short;
       enabled = (enabled_now G plan s past p.event m.input k (answer_of p.member) m.gives w.width st known, st.run.enabled);
     } in

@@ -8,7 +8,7 @@ use Rattle.std.proofs.lemmas.List.{length-append}
 use Rattle.std.proofs.lemmas.List.Sums.{sum_by_push}
 use Rattle.std.proofs.lemmas.List.Folds.{list_all-append}
 use Rattle.std.proofs.lemmas.List.Elements.{All-nil, All-push}
-use Rattle.upd_base.specs.Plan.{Planned, all_fit, bound, change_count, changes_in, is_plan, plan_of, step_fits, steps_in}
+use Rattle.upd_base.specs.Plan.{Planned, all_fit, bound, change_count, changes_in, is_open, is_plan, plan_of, step_fits, steps_in}
 use Rattle.upd_base.specs.declared.call.Step.{Step}
 use Rattle.upd_base.specs.declared.event.Event.{Event}
 use Rattle.upd_base.specs.declared.limits.TheConstants.{MAX_CALLS, MAX_CHANGES}
@@ -19,7 +19,7 @@ use Rattle.journal_file.specs.Grammar.Wanted.{WantsHeading, WantsMembers, WantsF
 use Rattle.journal_file.specs.Within.{AreEvents, AreNext, IsFront, IsWithin}
 
 is_plan_of : (plan : Planned) → IsFront plan 0 → 1 ≤ length plan.threads → is_plan plan ≡ true
-unfolding is_plan
+unfolding is_plan is_open
 is_plan_of plan f one =
     let a = f.some in
     let b = f.few in

@@ -6,7 +6,7 @@ use Rattle.std.proofs.lemmas.Bool.{and_parts}
 use Rattle.std.proofs.lemmas.Bool.Decides.{nat_tests}
 use Rattle.std.proofs.lemmas.List.Elements.{All-head, All-tail}
 use Rattle.std.proofs.lemmas.List.Sums.{sum_by-append, sum_by-cons}
-use Rattle.upd_base.specs.Plan.{Planned, all_fit, change_count, changes_in, is_plan, plan_of, step_fits, steps_in}
+use Rattle.upd_base.specs.Plan.{Planned, all_fit, change_count, changes_in, is_open, is_plan, plan_of, step_fits, steps_in}
 use Rattle.upd_base.specs.declared.call.Step.{Step}
 use Rattle.upd_base.specs.declared.event.Event.{Event}
 use Rattle.upd_base.specs.declared.limits.TheConstants.{MAX_CALLS, MAX_CHANGES}
@@ -75,7 +75,7 @@ events_lead plan done (e ∷ more) fit = (
 )
 
 some_threads : (p : Planned) → is_plan p ≡ true → 1 ≤ length p.threads
-unfolding is_plan
+unfolding is_plan is_open
 some_threads p is = grind (arith, nat_tests)
 
 text_leads : (bytes : List ℕ) (plan : Planned) (es : List Event) → IsJournalText bytes plan es → Leads WantsHeading (journal_lines plan es) (WantsNothing plan es)

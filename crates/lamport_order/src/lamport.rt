@@ -167,7 +167,7 @@ impl Ordering for LamportOrder {
         Ok(())
     }
 
-    ghost use Rattle.lamport_rules.proofs.Laws.{agreement_of, integrity_of, fulfilment_of, bound_of};
+    ghost use Rattle.lamport_rules.proofs.Laws.{agreement_of, integrity_of, fulfilment_of, bound_of, never_past_of};
 
     ghost agreement = { agreement_of };
 
@@ -176,4 +176,6 @@ impl Ordering for LamportOrder {
     ghost fulfilment = { fulfilment_of };
 
     ghost bound = { bound_of };
+
+    ghost never_past = { never_past_of };
 }

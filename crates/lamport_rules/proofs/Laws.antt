@@ -14,8 +14,8 @@ use Rattle.upd_base.specs.declared.kind.Kind.TheVariants.{Sequencer, Lamport, Co
 use Rattle.upd_base.specs.declared.item.Item.{Item}
 use Rattle.upd_base.specs.declared.body.Body.{Body}
 use Rattle.upd_base.specs.declared.body.Body.TheVariants.{Req, Ack}
-use Rattle.order_trait.specs.Runs.{Order, Broadcast, Suspect, Trust, Inputs, Steps, IsModuleRun, StepsFit, broadcast_at, broadcast_in, sent_in, KeepsAgreement, KeepsIntegrity, KeepsFulfilment, KeepsBound}
-use Rattle.order_trait.proofs.Sends.{bodies_to_all, length-to_all, SendersFit, senders_fit}
+use Rattle.order_trait.specs.Runs.{Order, Broadcast, Suspect, Trust, Inputs, Steps, IsModuleRun, StepsFit, broadcast_at, broadcast_in, sent_in, KeepsAgreement, KeepsIntegrity, KeepsFulfilment, KeepsBound, NeverSaysPast}
+use Rattle.order_trait.proofs.Sends.{NeverIn, never-to_all, bodies_to_all, length-to_all, SendersFit, senders_fit}
 use Rattle.order_trait.proofs.Sums.{sum_below, sum_below-none, sum_below-same, sum_below-le, sum_below-more}
 use Rattle.order_trait.proofs.Broadcasts.{broadcasts, broadcasts_among, broadcast_by_one, sum_by_members, broadcast_once}
 use Rattle.lamport_rules.specs.Lamport.{top, clock, stamp_of, greatest, heard, least_below, acks, sends_by, delivers_by, is_lamport, sends_of, delivers_of}
@@ -370,6 +370,20 @@ bound n past run quiet =
     let wide : n * total ≤ n * (n * b) = mul-le-mul_left n few in
     omega (arith, sent_is n past run.fit, wide)
 
+never_acks : (n c : ℕ) (body : Body) → NeverIn (acks n c body)
+never_acks n c (Req stamp item) = never-to_all n (Ack c) refl
+never_acks n c body = refl
+
+pub never_past : NeverSaysPast sends_by
+never_past n m [] = refl
+never_past n m (Called (Broadcast item) ∷ past) = never-to_all n (Req (clock (Called (Broadcast item) ∷ past)) item) refl
+never_past n m (Called (Suspect who) ∷ past) = refl
+never_past n m (Called (Trust who) ∷ past) = refl
+never_past n m (Took from body ∷ past) = elim (eqb from m) as (λ b. NeverIn (cond b [] (acks n (clock (Took from body ∷ past)) body))) [
+  | true ↦ refl
+  | false ↦ never_acks n (clock (Took from body ∷ past)) body
+]
+
 pub agreement_of : (kind : Kind) → is_lamport kind ≡ true → KeepsAgreement (sends_of kind) (delivers_of kind) kind
 agreement_of (Sequencer s) e = absurd (false≢true e)
 agreement_of Lamport e = agreement
@@ -389,3 +403,8 @@ pub bound_of : (kind : Kind) → is_lamport kind ≡ true → KeepsBound (sends_
 bound_of (Sequencer s) e = absurd (false≢true e)
 bound_of Lamport e = bound
 bound_of Consensus e = absurd (false≢true e)
+
+pub never_past_of : (kind : Kind) → is_lamport kind ≡ true → NeverSaysPast (sends_of kind)
+never_past_of (Sequencer s) e = absurd (false≢true e)
+never_past_of Lamport e = never_past
+never_past_of Consensus e = absurd (false≢true e)

@@ -5,15 +5,17 @@
 
 ghost use Rattle.std.specs.Prelude.{true, ◌≡◌};
 ghost use Rattle.upd_base.specs.declared.kind.Kind.{Kind};
-ghost use Rattle.order_trait.specs.Runs.{KeepsAgreement, KeepsIntegrity, KeepsFulfilment, KeepsBound};
+ghost use Rattle.order_trait.specs.Runs.{KeepsAgreement, KeepsIntegrity, KeepsFulfilment, KeepsBound, NeverSaysPast};
 ghost use Rattle.lamport_rules.specs.Lamport.{is_lamport, sends_of, delivers_of};
 
-/// The four laws, in every run of modules of this kind: members deliver in one order, only what was
+/// The laws, in every run of modules of this kind: members deliver in one order, only what was
 /// broadcast and nothing twice, everything without suspicion and once all is taken, and each broadcast
-/// costs at most 2·n·n + 3·n bodies.
+/// costs at most 2·n·n + 3·n bodies. At no inputs do
+/// they say that a version is past.
 pub fn lamport_laws()
     ensures agreement { (kind : Kind) → is_lamport kind ≡ true → KeepsAgreement (sends_of kind) (delivers_of kind) kind }
     ensures integrity { (kind : Kind) → is_lamport kind ≡ true → KeepsIntegrity (sends_of kind) (delivers_of kind) kind }
     ensures fulfilment { (kind : Kind) → is_lamport kind ≡ true → KeepsFulfilment (sends_of kind) (delivers_of kind) kind }
     ensures bound { (kind : Kind) → is_lamport kind ≡ true → KeepsBound (sends_of kind) kind }
+    ensures never_past { (kind : Kind) → is_lamport kind ≡ true → NeverSaysPast (sends_of kind) }
 {}

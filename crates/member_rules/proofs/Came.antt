@@ -17,9 +17,9 @@ use Rattle.upd_base.specs.declared.frame.Frame.{Frame}
 use Rattle.upd_base.specs.declared.entry.Entry.{Entry}
 use Rattle.upd_base.proofs.Fits.{switch_kind}
 use Rattle.replacement.specs.declared.act.Act.{Act}
-use Rattle.replacement.specs.Repl.{State, next_kind, counted, left, other_than, state_after, renewed, acts_on}
+use Rattle.replacement.specs.Repl.{State, counted, left, other_than, state_after, renewed, acts_on}
 use Rattle.group_run.specs.Group.{Group}
-use Rattle.group_run.specs.Version.{inputs_at, given, has_ended, entries, segment}
+use Rattle.group_run.specs.Version.{inputs_at, given, has_ended, entries, segment, next_kind}
 use Rattle.group_run.specs.Part.{Part, version}
 use Rattle.group_run.specs.Turn.{processed, framed}
 use Rattle.group_run.proofs.Lists.{tested}
@@ -28,7 +28,7 @@ use Rattle.member_rules.specs.Kept.{Kept}
 use Rattle.member_rules.specs.Stands.{AreModules, Holds}
 use Rattle.member_rules.specs.Steps.{Came, Calm, IsNext, Lasts, moved, fresh_orders, Enters, entering}
 use Rattle.member_rules.specs.Acts.{is_kept, counting, delivered_by, reissued_by, bound_by, orders_sent}
-use Rattle.member_rules.proofs.Deliver.{next_is, segment_is, delivered_acts, bound_acts, reissued_acts}
+use Rattle.member_rules.proofs.Deliver.{segment_is, delivered_acts, bound_acts, reissued_acts}
 use Rattle.member_rules.proofs.Process.{holds_older, holds_newest, frames_step, state_some}
 use Rattle.member_rules.proofs.Switch.{holds_some, frames_some}
 
@@ -52,12 +52,12 @@ all_left P us (x ∷ items) h = all_left P (other_than x us) items (All-filter (
 -- the kind of a switch that counts is served, and fits
 pub next_is_served : (g : Group) (v : ℕ) (delivered : List Item) (kind : Kind) → next_kind (counting g.rules.serves v delivered) ≡ Some kind → g.rules.serves kind ≡ true
 next_is_served g v delivered kind next =
-    let found = next_kind-found g v delivered kind (sym (next_is (segment g v delivered)) ∙ ap next_kind (sym (segment_is g v delivered)) ∙ next) in
+    let found = next_kind-found g v delivered kind (ap next_kind (sym (segment_is g v delivered)) ∙ next) in
     ends_served g v kind found.3
 
 pub next_fits : (g : Group) (n v : ℕ) (delivered : List Item) (kind : Kind) → next_kind (counting g.rules.serves v delivered) ≡ Some kind → All (ItemFits n) delivered → KindFits n kind
 next_fits g n v delivered kind next all =
-    let f = next_kind-found g v delivered kind (sym (next_is (segment g v delivered)) ∙ ap next_kind (sym (segment_is g v delivered)) ∙ next) in
+    let f = next_kind-found g v delivered kind (ap next_kind (sym (segment_is g v delivered)) ∙ next) in
     switch_kind n f.0 f.1 kind (All-contains (ItemFits n) delivered (Switch f.0 f.1 kind) all f.2)
 
 -- what the replacement bound: the version was the present one, the kind is served and fits, and the messages that are left are issued again

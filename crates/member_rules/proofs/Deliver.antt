@@ -10,20 +10,13 @@ use Rattle.upd_base.specs.declared.entry.Entry.{Entry}
 use Rattle.upd_base.specs.declared.limits.TheConstants.{MAX_VERSION}
 use Rattle.replacement.specs.declared.act.Act.{Act}
 use Rattle.replacement.specs.declared.act.Act.TheVariants.{Deliver, Reissue}
-use Rattle.replacement.specs.Repl.{next_kind, counted, other_than, left, renewal, acts_on}
+use Rattle.replacement.specs.Repl.{counted, other_than, left, renewal, acts_on}
 use Rattle.group_run.specs.Group.{Group}
-use Rattle.group_run.specs.Version.{segment, entries}
-use Rattle.group_run.specs.Version as version
+use Rattle.group_run.specs.Version.{segment, entries, next_kind}
 use Rattle.group_run.specs.Part.{is_logged}
 use Rattle.group_run.proofs.Lists.{tested}
 use Rattle.member_rules.specs.Acts.{is_kept, delivered_by, reissued_by, bound_by}
 use Rattle.member_rules.proofs.Turns.{absent_from}
-
--- the two words for the kind of the switch among items are one
-pub next_is : (items : List Item) → next_kind items ≡ version.next_kind items
-next_is [] = refl
-next_is (Msg origin number payload ∷ items) = next_is items
-next_is (Switch origin number kind ∷ items) = refl
 
 -- the segment is what counts of the kept items
 pub segment_is : (g : Group) (v : ℕ) (items : List Item) → counted v (filter (is_kept g.rules.serves) items) ≡ segment g v items

@@ -5,7 +5,6 @@ use Rattle.std.proofs.lemmas.Bool.{ltb-false}
 use Rattle.std.proofs.lemmas.List.Elements.{All-head, All-tail, All-cons}
 use Rattle.order_trait.specs.declared.ordering.Ordering.{Ghosts}
 use Rattle.upd_base.specs.declared.frame.Frame.{Frame}
-use Rattle.early_frames.specs.Held as kept
 use Rattle.group_run.specs.Group.{Group}
 use Rattle.group_run.specs.Part.{Part, with_held, stopped, version}
 use Rattle.group_run.specs.Held.{waits, first_ready, without_ready, is_early}
@@ -16,19 +15,6 @@ use Rattle.member_rules.specs.Kept.{Kept, IsMember}
 use Rattle.member_rules.specs.Stands.{Holds}
 use Rattle.member_rules.specs.Steps.{moved, releasing}
 use Rattle.member_rules.proofs.Basics.{version_is}
-
--- The words of the held frames are those of the definition ---------------------------------------------------------
-
-pub waits_is : (from v : ℕ) (held : List (ℕ × Frame)) → kept.waits from v held ≡ waits from v held
-waits_is from v held = refl
-
-pub first_is : (v : ℕ) (held : List (ℕ × Frame)) → kept.first_ready v held ≡ first_ready v held
-first_is v [] = refl
-first_is v (h ∷ held) = elim (tested (nat_le h.1.version v)) [ inl e ↦ rw e refl | inr e ↦ rw e (first_is v held) ]
-
-pub without_is : (v : ℕ) (held : List (ℕ × Frame)) → kept.without_ready v held ≡ without_ready v held
-without_is v [] = refl
-without_is v (h ∷ held) = elim (tested (nat_le h.1.version v)) [ inl e ↦ rw e refl | inr e ↦ rw e (ap (λ hs. h ∷ hs) (without_is v held)) ]
 
 pub all_without : (P : ℕ × Frame → Type 0) (v : ℕ) (held : List (ℕ × Frame)) → All P held → All P (without_ready v held)
 all_without P v [] h = h

@@ -8,9 +8,9 @@ use Rattle.upd_base.specs.declared.body.Body.{Body}
 use Rattle.upd_base.specs.declared.kind.Kind.{Kind}
 use Rattle.upd_base.specs.declared.item.Item.{Item}
 use Rattle.upd_base.specs.declared.frame.Frame.{Frame}
-use Rattle.replacement.specs.Repl.{State, left, state_after, renewed, next_kind}
+use Rattle.replacement.specs.Repl.{State, left, state_after, renewed}
 use Rattle.group_run.specs.Group.{Group}
-use Rattle.group_run.specs.Version.{kind_at, newest, inputs_at, given, has_ended, entries, log_of, segment}
+use Rattle.group_run.specs.Version.{kind_at, newest, inputs_at, given, has_ended, entries, log_of, segment, next_kind}
 use Rattle.group_run.specs.Part.{Part, version}
 use Rattle.group_run.specs.Turn.{Turn, ModuleStep, still, stepped, processed, framed}
 use Rattle.member_rules.specs.Kept.{Kept}
@@ -21,7 +21,7 @@ use Rattle.member_rules.proofs.Alike.{alike_open, newest_is, newest_lt, newest_k
 use Rattle.member_rules.proofs.Took.{Behind, alike_older, behind_newest}
 use Rattle.member_rules.proofs.Modules.{modules_given, sent_by}
 use Rattle.member_rules.proofs.Turns.{holds_alike, absent_from}
-use Rattle.member_rules.proofs.Deliver.{left_is, next_is}
+use Rattle.member_rules.proofs.Deliver.{left_is}
 
 -- the step of a frame
 abbrev pub step_of : ℕ → Frame → ModuleStep
@@ -87,7 +87,7 @@ holds_newest G g me from frame k m next state2 part items h here lasts at step i
     let lt : v < length ms = omega arith in
     let b = behind_of G g me from frame k part h here lasts in
     let seg : segment g (newest ms) lasts.0 ≡ items = ap (λ w. segment g w lasts.0) (sym here) ∙ sym is in
-    let closed : has_ended g me ns ≡ false = b.ends_is ∙ ap is_some (sym (next_is (segment g (newest ms) lasts.0)) ∙ ap next_kind seg ∙ none) in
+    let closed : has_ended g me ns ≡ false = b.ends_is ∙ ap is_some (ap next_kind seg ∙ none) in
     let logs : log_of g me ns ≡ log_of g me ms ++ entries v items = b.log_is ∙ ap (λ xs. log_of g me ms ++ entries (newest ms) xs) seg ∙ ap (λ w. log_of g me ms ++ entries w items) (sym here) in
     let st = after ∙ state_none k.repl items none in (
       closed,

@@ -10,10 +10,9 @@ use Rattle.upd_base.specs.declared.body.Body.{Body}
 use Rattle.upd_base.specs.declared.kind.Kind.{Kind}
 use Rattle.upd_base.specs.declared.item.Item.{Item}
 use Rattle.upd_base.specs.declared.frame.Frame.{Frame}
-use Rattle.replacement.specs.Repl.{State, left, next_kind}
+use Rattle.replacement.specs.Repl.{State, left}
 use Rattle.group_run.specs.Group.{Group}
-use Rattle.group_run.specs.Version as version_words
-use Rattle.group_run.specs.Version.{kind_at, kind_above, newest, inputs_at, given, has_ended, entries, log_of, segment}
+use Rattle.group_run.specs.Version.{kind_at, kind_above, newest, inputs_at, given, has_ended, entries, log_of, segment, next_kind}
 use Rattle.group_run.specs.Part.{Part, version, with_modules, suspicions}
 use Rattle.group_run.specs.Turn.{Turn, still, stepped, opened, processed, first_orders, in_module, all_told, framed}
 use Rattle.group_run.proofs.Lists.{tested}
@@ -27,7 +26,7 @@ use Rattle.member_rules.proofs.Alike.{Ended, newest_is}
 use Rattle.member_rules.proofs.Took.{Behind}
 use Rattle.member_rules.proofs.Modules.{modules_given, modules_bound, sent_by}
 use Rattle.member_rules.proofs.Turns.{absent_from}
-use Rattle.member_rules.proofs.Deliver.{left_is, next_is}
+use Rattle.member_rules.proofs.Deliver.{left_is}
 use Rattle.member_rules.proofs.Enter.{all_told_part, all_told_frames, suspicions_are}
 use Rattle.member_rules.proofs.Process.{step_of, behind_of, still_fresh}
 
@@ -44,19 +43,19 @@ pub record Switched (g : Group) (me : ℕ) (ns : List Inputs) (kind : Kind) : Ty
   pub ends_is : has_ended g me ns ≡ true
   pub kind_is : kind_above g me ns ≡ kind
   pub ended : Ended g me ns
-  pub last : version_words.next_kind (seg_at g me (newest ns) ns) ≡ Some kind
+  pub last : next_kind (seg_at g me (newest ns) ns) ≡ Some kind
   pub some : 1 ≤ length ns
 
-kind_above_is : (g : Group) (me : ℕ) (ns : List Inputs) (kind : Kind) → 1 ≤ length ns → version_words.next_kind (seg_at g me (newest ns) ns) ≡ Some kind → kind_above g me ns ≡ kind
+kind_above_is : (g : Group) (me : ℕ) (ns : List Inputs) (kind : Kind) → 1 ≤ length ns → next_kind (seg_at g me (newest ns) ns) ≡ Some kind → kind_above g me ns ≡ kind
 kind_above_is g me [] kind some h = absurd (omega arith)
 kind_above_is g me (m ∷ older) kind some h = kind_above-next g me m older ∙ ap (λ o. unwrap_or o (kind_at g me (length older) (m ∷ older))) h
 
 pub switched_of : (g : Group) (me : ℕ) (ms ns : List Inputs) (more items : List Item) (kind : Kind) → 1 ≤ length ms → Behind g me ms ns more → items ≡ segment g (newest ms) more → next_kind items ≡ Some kind → Switched g me ns kind
 switched_of g me ms ns more items kind some b is h =
-    let n : version_words.next_kind (segment g (newest ms) more) ≡ Some kind = ap version_words.next_kind (sym is) ∙ sym (next_is items) ∙ h in
+    let n : next_kind (segment g (newest ms) more) ≡ Some kind = ap next_kind (sym is) ∙ h in
     let s : 1 ≤ length ns = let e = b.same_length in omega arith in
     let same : newest ns ≡ newest ms = newest_is ns ∙ ap (λ k. k - 1) b.same_length ∙ sym (newest_is ms) in
-    let last : version_words.next_kind (seg_at g me (newest ns) ns) ≡ Some kind = ap (λ w. version_words.next_kind (seg_at g me w ns)) same ∙ b.next_is ∙ n in
+    let last : next_kind (seg_at g me (newest ns) ns) ≡ Some kind = ap (λ w. next_kind (seg_at g me w ns)) same ∙ b.next_is ∙ n in
     record {
       ends_is = b.ends_is ∙ ap is_some n;
       kind_is = kind_above_is g me ns kind s last;
@@ -78,13 +77,13 @@ order_bound g me ns kind orders sw calm served fits =
         | inl e ↦
             let is : u ≡ newest ns = eqb-true u (newest ns) e in
             let l : u < length ns = let n = newest_is ns in let s = sw.some in omega arith in
-            (kind, ap version_words.next_kind (seg_at-older g me u new ns l) ∙ ap (λ w. version_words.next_kind (seg_at g me w ns)) is ∙ sw.last)
+            (kind, ap next_kind (seg_at-older g me u new ns l) ∙ ap (λ w. next_kind (seg_at g me w ns)) is ∙ sw.last)
         | inr e ↦
             let ne : u ≢ newest ns = λ q. let r = eq-eqb u (newest ns) q in cc in
             let l : u < length ns = omega arith in
             let l2 : suc u < length ns = let n = newest_is ns in omega arith in
             let f = sw.ended u l2 in
-            (f.0, ap version_words.next_kind (seg_at-older g me u new ns l) ∙ f.1)
+            (f.0, ap next_kind (seg_at-older g me u new ns l) ∙ f.1)
       ];
       open_yet = rw none refl;
     }

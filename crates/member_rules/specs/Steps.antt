@@ -14,12 +14,12 @@ use Rattle.upd_base.specs.declared.call.Call.{Call}
 use Rattle.upd_base.specs.declared.call.Call.TheVariants.{Suspect, Trust}
 use Rattle.upd_base.specs.declared.limits.TheConstants.{MAX_VERSION}
 use Rattle.group_run.specs.Group.{Group, Outer, Makes, Releases}
-use Rattle.group_run.specs.Version.{kind_at, inputs_at, entries}
+use Rattle.group_run.specs.Version.{kind_at, inputs_at, entries, next_kind}
 use Rattle.group_run.specs.Part.{Part, version, with_held}
 use Rattle.group_run.specs.Held.{is_early, first_ready, without_ready}
 use Rattle.group_run.specs.Turn.{framed}
 use Rattle.group_run.specs.Growing.{NextIsNew, TakesMore}
-use Rattle.replacement.specs.Repl.{State, left, next_kind, state_after}
+use Rattle.replacement.specs.Repl.{State, left, state_after}
 use Rattle.member_rules.specs.Kept.{Kept}
 use Rattle.member_rules.specs.Acts.{counting, suspicions_in, orders_after, orders_sent}
 

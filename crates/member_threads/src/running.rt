@@ -98,6 +98,7 @@ fn share_out<O: Ordering, L: Line, G: Gate, R: Threads + Wait + Sync>(
 {
     let members = journal.plan().members();
     let threads = journal.plan().threads();
+    journal.plan().keeps_limits();
     match LiveGroup::share(alloc, journal) {
         Err(journal) => untouched(journal, lines),
         Ok((group, pass)) => {

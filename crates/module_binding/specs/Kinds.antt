@@ -2,7 +2,7 @@
 use Rattle.std.specs.Prelude.{Bool, true, ◌≡◌}
 use Rattle.upd_base.specs.declared.kind.Kind.{Kind}
 use Rattle.upd_base.specs.declared.kind.Kind.TheVariants.{Sequencer, Lamport, Consensus}
-use Rattle.order_trait.specs.Runs.{KindSends, KindDelivers, KeepsAgreement, KeepsIntegrity, KeepsFulfilment, KeepsBound}
+use Rattle.order_trait.specs.Runs.{KindSends, KindDelivers, KeepsAgreement, KeepsIntegrity, KeepsFulfilment, KeepsBound, NeverSaysPast}
 use Rattle.sequencer_rules.specs.Sequencer as sequencer
 use Rattle.lamport_rules.specs.Lamport as lamport
 use Rattle.consensus_rules.specs.Consensus as consensus
@@ -46,3 +46,8 @@ pub bound_of : (kind : Kind) → is_served kind ≡ true → KeepsBound (sends_o
 bound_of (Sequencer s) e = sequencer_laws.bound s
 bound_of Lamport e = lamport_laws.bound
 bound_of Consensus e = consensus_laws.bound_of Consensus e
+
+pub never_past_of : (kind : Kind) → is_served kind ≡ true → NeverSaysPast (sends_of kind)
+never_past_of (Sequencer s) e = sequencer_laws.never_past s
+never_past_of Lamport e = lamport_laws.never_past
+never_past_of Consensus e = consensus_laws.never_past_of Consensus e

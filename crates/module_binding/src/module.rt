@@ -99,7 +99,7 @@ impl Ordering for Module {
         }
     }
 
-    ghost use Rattle.module_binding.specs.Kinds.{agreement_of, integrity_of, fulfilment_of, bound_of};
+    ghost use Rattle.module_binding.specs.Kinds.{agreement_of, integrity_of, fulfilment_of, bound_of, never_past_of};
 
     ghost agreement = { agreement_of };
 
@@ -108,4 +108,6 @@ impl Ordering for Module {
     ghost fulfilment = { fulfilment_of };
 
     ghost bound = { bound_of };
+
+    ghost never_past = { never_past_of };
 }

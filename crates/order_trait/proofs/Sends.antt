@@ -1,11 +1,12 @@
-use Rattle.std.proofs.Common.{ℕ, zero, suc, ◌≡◌, ◌<◌, ◌≤◌, inl, inr, [], ◌∷◌, ◌++◌, eqb, true, length, refl, ap, ◌∙◌, arith, length-append}
-use Rattle.std.proofs.lemmas.Bool.{cases_eq, cond-true, cond-false, eq-eqb, ne_eqb}
+use Rattle.std.proofs.Common.{ℕ, zero, suc, ◌≡◌, ◌<◌, ◌≤◌, inl, inr, List, [], ◌∷◌, ◌++◌, eqb, true, false, length, refl, ap, ◌∙◌, arith, length-append}
+use Rattle.std.proofs.lemmas.Bool.{and_parts, cases_eq, cond-true, cond-false, eq-eqb, ne_eqb}
 use Rattle.std.proofs.lemmas.List.Elements.{All-nil, All-push}
-use Rattle.std.specs.List.{All}
+use Rattle.std.specs.List.{All, list_all, flat_map}
+use Rattle.std.specs.Prelude.{not}
 use Rattle.fifo_net.specs.Net.{Input, Called, Took, inputs_of, bodies_to}
 use Rattle.fifo_net.proofs.Lists.{bodies_to-append}
 use Rattle.fifo_net.proofs.Links.{inputs_step}
-use Rattle.upd_base.specs.Body.{BodyFits, is_body}
+use Rattle.upd_base.specs.Body.{BodyFits, is_body, is_past}
 use Rattle.upd_base.specs.declared.body.Body.{Body}
 use Rattle.order_trait.specs.Runs.{Order, Inputs, Steps, StepsFit, InputFits}
 use Rattle.order_trait.specs.Outbox.{to_all, SendFits}
@@ -42,6 +43,25 @@ bodies_to_all (suc n) m body h =
           let here : bodies_to m ((n, body) ∷ []) ≡ [] = cond-false (eqb n m) (body ∷ []) [] (ne_eqb n m ne) in
           bodies_to-append m (to_all n body) ((n, body) ∷ []) ∙ ap (λ l. l ++ bodies_to m ((n, body) ∷ [])) below ∙ ap (λ l. body ∷ l) here
     ]
+
+-- Bodies of which none says that a version is past ---------------------------------------------------------------------
+
+abbrev pub NeverIn : List (ℕ × Body) → Type 0
+NeverIn bodies = list_all (λ s. not (is_past s.1)) bodies ≡ true
+
+pub never-append : (xs ys : List (ℕ × Body)) → NeverIn xs → NeverIn ys → NeverIn (xs ++ ys)
+never-append [] ys a b = b
+never-append (x ∷ xs) ys a b =
+    let k = and_parts (not (is_past x.1)) (list_all (λ s. not (is_past s.1)) xs) a in
+    rw k.0 (never-append xs ys k.1 b)
+
+pub never-to_all : (n : ℕ) (body : Body) → is_past body ≡ false → NeverIn (to_all n body)
+never-to_all zero body h = refl
+never-to_all (suc n) body h = never-append (to_all n body) ((n, body) ∷ []) (never-to_all n body h) (rw h refl)
+
+pub never-flat_map : {A : Type 0} (f : A → List (ℕ × Body)) (xs : List A) → ((x : A) → NeverIn (f x)) → NeverIn (flat_map f xs)
+never-flat_map f [] h = refl
+never-flat_map f (x ∷ xs) h = never-append (f x) (flat_map f xs) (h x) (never-flat_map f xs h)
 
 -- all that was taken came from members below n
 abbrev pub SendersFit : ℕ → Inputs → Type 0

@@ -1,7 +1,9 @@
 -- Modules of one kind, their runs, and the laws that a kind keeps.
-use Rattle.std.specs.Prelude.{ℕ, ◌≡◌, ◌≢◌, ◌+◌, ◌*◌, ◌<◌, ◌≤◌, ◌^◌, ◌⊎◌, List, [], ◌∷◌, ◌++◌, length, count_by, Contains}
+use Rattle.std.specs.Prelude.{ℕ, ◌≡◌, ◌≢◌, ◌+◌, ◌*◌, ◌<◌, ◌≤◌, ◌^◌, ◌⊎◌, true, not, List, [], ◌∷◌, ◌++◌, length, count_by, Contains}
+use Rattle.std.specs.List.{list_all}
 use Rattle.fifo_net.specs.Net.{Input, Called, Took, Step, Sends, IsRun, IsPrefix, inputs_of, taken_on, sent_on}
 use Rattle.upd_base.specs.Item.{id_of, has_id, origin_of, ItemFits}
+use Rattle.upd_base.specs.Body.{is_past}
 use Rattle.upd_base.specs.Kind.{KindFits}
 use Rattle.upd_base.specs.declared.kind.Kind.{Kind}
 use Rattle.upd_base.specs.declared.item.Item.{Item}
@@ -125,3 +127,7 @@ sent_in sends (s ∷ past) = length (sends s.at (s.input ∷ inputs_of s.at past
 abbrev pub KeepsBound : KindSends → Kind → Type 0
 KeepsBound sends kind = (n : ℕ) (past : Steps) → IsModuleRun sends kind n past → suspects_in past ≡ 0
     → sent_in (sends n) past ≤ (2 * n * n + 3 * n) * length (broadcast_in past)
+
+-- At no list of inputs does a module say that a version is past: members say that.
+abbrev pub NeverSaysPast : KindSends → Type 0
+NeverSaysPast sends = (n m : ℕ) (inputs : Inputs) → list_all (λ s. not (is_past s.1)) (sends n m inputs) ≡ true

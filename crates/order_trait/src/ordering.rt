@@ -1,5 +1,5 @@
 //! The interface of total order broadcast: the calls on a module, each tied to what its kind sends and delivers, and
-//! the four laws that every kind owes.
+//! the five laws that every kind owes.
 ghost use Rattle.std.specs.Prelude.{ℕ, List, Bool, true, ◌≡◌, ◌≢◌, ◌<◌, ◌≤◌, [], ◌∷◌, ◌++◌, if◌then◌else◌, IfOk, OnOk};
 ghost use Rattle.fifo_net.specs.Net.{Input, Called, Took};
 ghost use Rattle.upd_base.specs.Kind.{KindFits};
@@ -8,7 +8,7 @@ ghost use Rattle.upd_base.specs.Body.{BodyFits, is_body};
 ghost use Rattle.upd_base.specs.declared.kind.Kind.{Kind};
 ghost use Rattle.upd_base.specs.declared.item.Item.{Item};
 ghost use Rattle.order_trait.specs.Outbox.{SendFits, Grows};
-ghost use Rattle.order_trait.specs.Runs.{Order, Broadcast, Suspect, Trust, Inputs, Seat, KindSends, KindDelivers, at_seat, KeepsAgreement, KeepsIntegrity, KeepsFulfilment, KeepsBound};
+ghost use Rattle.order_trait.specs.Runs.{Order, Broadcast, Suspect, Trust, Inputs, Seat, KindSends, KindDelivers, at_seat, KeepsAgreement, KeepsIntegrity, KeepsFulfilment, KeepsBound, NeverSaysPast};
 
 use crate::outbox::Outbox;
 use std::alloc::Global;
@@ -23,7 +23,7 @@ use upd_base::{Body, Item, Kind, MemberId, NoMemory};
 /// call sends and delivers is what the two functions give there, for every list for which the module
 /// stands, whether it is one of a run or not.
 ///
-/// The four laws at the end hold of the two functions, over all runs of modules of a served kind
+/// The laws at the end hold of the two functions, over all runs of modules of a served kind, the last at all inputs
 /// (`specs/Runs`). The only error is want of memory; after it the module has the seat that it had, and
 /// is promised no more.
 pub trait Ordering: Drop + Send + Sync {
@@ -123,4 +123,7 @@ pub trait Ordering: Drop + Send + Sync {
 
     /// Without suspicion, at most 2·n·n + 3·n bodies are sent for each broadcast.
     ghost bound: { (kind : Kind) → is_served kind ≡ true → KeepsBound (sends kind) kind };
+
+    /// No module says that a version is past: members say that.
+    ghost never_past: { (kind : Kind) → is_served kind ≡ true → NeverSaysPast (sends kind) };
 }

@@ -5,7 +5,7 @@ use Rattle.std.proofs.lemmas.Bool.{cases_lt, eqb-true}
 use Rattle.std.proofs.lemmas.List.Elements.{Contains-append_cases, Contains-append_left, Contains-append_right}
 use Rattle.upd_base.specs.Item.{id_of, is_message}
 use Rattle.upd_base.specs.Plan.{Planned, planned}
-use Rattle.upd_base.proofs.PlanFacts.{plan_facts, planned_member}
+use Rattle.upd_base.proofs.PlanFacts.{open_facts, planned_member}
 use Rattle.upd_base.specs.declared.answer.Answer.{Answer}
 use Rattle.upd_base.specs.declared.answer.Answer.TheVariants.{Accepted, Crashed, Full}
 use Rattle.upd_base.specs.declared.call.Call.TheVariants.{Send}
@@ -87,7 +87,7 @@ accepts_in : (rules : Rules) → KeepsOrder rules → FulfilsAll rules → (plan
 accepts_in rules k fa plan s past run quiet me lt text rest =
     accepts (group rules plan) me (part rules plan past me) text (((quiet_run rules plan past run.enabled quiet).parts me).up refl)
     (λ e. let r = rest e in
-    none_undelivered rules plan past (accepted_alike rules plan past (plan_facts plan run.of_plan) run.enabled) (fulfils_at_rest rules k fa plan s past run r.receipts r.releases quiet) me lt)
+    none_undelivered rules plan past (accepted_alike rules plan past (open_facts plan run.of_plan) run.enabled) (fulfils_at_rest rules k fa plan s past run r.receipts r.releases quiet) me lt)
 
 -- Sends that were made ------------------------------------------------------------------------------------------
 
@@ -112,7 +112,7 @@ newest_send : (rules : Rules) → KeepsOrder rules → FulfilsAll rules → (pla
     → (s : Step) (text : List ℕ) → planned plan thread index ≡ Some s → s.call ≡ Send text → (number : ℕ) × (Call thread index member given ≡ Call thread index s.at (Accepted number))
 newest_send rules k fa plan s past thread index member given run quiet rest st text e c =
     let next = next_call rules plan past thread index member given (planned plan thread index) st run.enabled.0 e in
-    let lt : st.at < plan.members = planned_member plan (plan_facts plan run.of_plan) thread index st e in
+    let lt : st.at < plan.members = planned_member plan (open_facts plan run.of_plan) thread index st e in
     let lm : member < plan.members = subst (λ m. m < plan.members) (sym next.at) lt in
     let is : given ≡ answer (group rules plan) member (part rules plan past member) (Send text) = next.answered ∙ ap (λ call. answer (group rules plan) member (part rules plan past member) call) c in
     let accepted = accepts_in rules k fa plan s past (shorter rules plan (Call thread index member given) past run) quiet member lm text (λ f. rest (is ∙ f)) in

@@ -7,6 +7,7 @@ use Rattle.upd_base.specs.declared.kind.Kind.{Kind}
 use Rattle.upd_base.specs.declared.item.Item.{Item}
 use Rattle.upd_base.specs.declared.item.Item.TheVariants.{Msg, Switch}
 use Rattle.upd_base.specs.declared.limits.TheConstants.{MAX_VERSION}
+use Rattle.group_run.specs.Version.{next_kind}
 use Rattle.replacement.specs.declared.act.Act.{Act}
 use Rattle.replacement.specs.declared.act.Act.TheVariants.{Deliver, Bind, Reissue}
 
@@ -40,12 +41,6 @@ counted version [] = []
 counted version (Msg origin number payload ∷ items) = Msg origin number payload ∷ counted version items
 counted version (Switch origin number kind ∷ items) =
     if nat_lt version MAX_VERSION then Switch origin number kind ∷ [] else counted version items
-
--- the kind of the switch among them, where there is one
-abbrev pub next_kind : List Item → Option Kind
-next_kind [] = None
-next_kind (Msg origin number payload ∷ items) = next_kind items
-next_kind (Switch origin number kind ∷ items) = Some kind
 
 -- the messages of another origin or number than this item
 abbrev pub other_than : Item → List Item → List Item

@@ -4,7 +4,8 @@ ghost use Rattle.std.specs.Prelude.{◌≡◌, ◌<◌, ◌≤◌, [], ◌∷◌
 ghost use Rattle.upd_base.specs.declared.item.Item.TheVariants.{Msg, Switch};
 ghost use Rattle.upd_base.specs.declared.limits.TheConstants.{MAX_UNDELIVERED, MAX_VERSION};
 ghost use Rattle.replacement.specs.declared.act.Act.TheVariants.{Deliver, Bind, Reissue};
-ghost use Rattle.replacement.specs.Repl.{acts_on, asked, counted, issued, left, next_kind, other_than, state_after};
+ghost use Rattle.replacement.specs.Repl.{acts_on, asked, counted, issued, left, other_than, state_after};
+ghost use Rattle.group_run.specs.Version.{next_kind};
 
 use crate::act::Act;
 use std::alloc::Global;

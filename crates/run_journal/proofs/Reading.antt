@@ -166,7 +166,7 @@ all_made plan past n l h t = elim (tested (nat_lt t n)) [
 
 -- the member of a thread's next call is one of the plan
 pub caller_fits : (plan : Planned) (past : Events) (thread : ℕ) (step : PlannedStep) → is_plan plan ≡ true → next_call plan past thread ≡ Some step → step.at < plan.members
-caller_fits plan past thread step e q = planned_member plan (plan_facts plan e) thread (calls_made thread past) step q
+caller_fits plan past thread step e q = planned_member plan (plan_facts plan e).open_plan thread (calls_made thread past) step q
 
 -- a message is answered as full where the member is up and has no room
 pub full_of : (g : Group) (me : ℕ) (p : Part) (call : Call) (text : List ℕ) (full : Bool) → call ≡ Send text → p.crashed ≡ false → full ≡ nat_le MAX_UNDELIVERED (length (undelivered g me p)) →

@@ -164,7 +164,7 @@ impl Ordering for SequencerOrder {
         Ok(())
     }
 
-    ghost use Rattle.sequencer_rules.proofs.Laws.{agreement_of, integrity_of, fulfilment_of, bound_of};
+    ghost use Rattle.sequencer_rules.proofs.Laws.{agreement_of, integrity_of, fulfilment_of, bound_of, never_past_of};
 
     ghost agreement = { agreement_of };
 
@@ -173,4 +173,6 @@ impl Ordering for SequencerOrder {
     ghost fulfilment = { fulfilment_of };
 
     ghost bound = { bound_of };
+
+    ghost never_past = { never_past_of };
 }

@@ -1,4 +1,4 @@
-use Rattle.std.proofs.Common.{ℕ, ◌≡◌, ◌+◌, ◌*◌, ◌<◌, ◌≤◌, inl, inr, eqb, true, cond, List, [], ◌∷◌, ◌++◌, length, refl, sym, ap, subst, arith, length-append}
+use Rattle.std.proofs.Common.{ℕ, ◌≡◌, ◌+◌, ◌*◌, ◌<◌, ◌≤◌, inl, inr, eqb, true, false, cond, List, [], ◌∷◌, ◌++◌, length, refl, sym, ap, subst, arith, length-append}
 use Rattle.std.specs.List.{flat_map, Contains, sum_by}
 use Rattle.upd_base.proofs.Fits.{sequencer_below}
 use Rattle.std.proofs.lemmas.Bool.{cond-true, cond-false, cases_eq, eq-eqb, ne_eqb, false≢true}
@@ -13,8 +13,8 @@ use Rattle.upd_base.specs.declared.kind.Kind.TheVariants.{Sequencer, Lamport, Co
 use Rattle.upd_base.specs.declared.item.Item.{Item}
 use Rattle.upd_base.specs.declared.body.Body.{Body}
 use Rattle.upd_base.specs.declared.body.Body.TheVariants.{Ask, Ord}
-use Rattle.order_trait.specs.Runs.{Order, Broadcast, Suspect, Trust, Inputs, Steps, IsModuleRun, broadcast_in, broadcast_at, sent_in, KeepsAgreement, KeepsIntegrity, KeepsFulfilment, KeepsBound}
-use Rattle.order_trait.proofs.Sends.{length-to_all, senders_fit}
+use Rattle.order_trait.specs.Runs.{Order, Broadcast, Suspect, Trust, Inputs, Steps, IsModuleRun, broadcast_in, broadcast_at, sent_in, KeepsAgreement, KeepsIntegrity, KeepsFulfilment, KeepsBound, NeverSaysPast}
+use Rattle.order_trait.proofs.Sends.{NeverIn, never-to_all, length-to_all, senders_fit}
 use Rattle.order_trait.proofs.Sums.{sum_below, sum_below-le}
 use Rattle.order_trait.proofs.Broadcasts.{broadcasts, broadcasts_among, broadcast_by_one, sum_by_members, broadcast_once}
 use Rattle.sequencer_rules.specs.Sequencer.{is_sequencer, ask_item, ord_item, asked, passes_on, place_of, sends_by, sends_of, delivers_by, delivers_of}
@@ -149,6 +149,21 @@ bound s n past run quiet =
     omega (arith, le, length_is_sum (asked (inputs_of s past)), length_is_sum (broadcast_in past)) in
     omega (arith, sent_is s n past, mul-le-mul_left n fewer, mul-le-mul_left b run.some)
 
+-- what the sequencer passes on says of no version that it is past
+never_passed : (n j : ℕ) (body : Body) → NeverIn (passes_on n j body)
+never_passed n j (Ask item) = never-to_all n (Ord (place_of j) item) refl
+never_passed n j body = refl
+
+pub never_past : (s : ℕ) → NeverSaysPast (sends_by s)
+never_past s n m [] = refl
+never_past s n m (Called (Broadcast item) ∷ past) = refl
+never_past s n m (Called (Suspect who) ∷ past) = refl
+never_past s n m (Called (Trust who) ∷ past) = refl
+never_past s n m (Took from body ∷ past) = elim (eqb m s) as (λ b. NeverIn (cond b (passes_on n (length (asked past) + 1) body) [])) [
+  | true ↦ never_passed n (length (asked past) + 1) body
+  | false ↦ refl
+]
+
 -- the laws at any kind that is served
 pub agreement_of : (kind : Kind) → is_sequencer kind ≡ true → KeepsAgreement (sends_of kind) (delivers_of kind) kind
 agreement_of (Sequencer s) e = agreement s
@@ -169,3 +184,8 @@ pub bound_of : (kind : Kind) → is_sequencer kind ≡ true → KeepsBound (send
 bound_of (Sequencer s) e = bound s
 bound_of Lamport e = absurd (false≢true e)
 bound_of Consensus e = absurd (false≢true e)
+
+pub never_past_of : (kind : Kind) → is_sequencer kind ≡ true → NeverSaysPast (sends_of kind)
+never_past_of (Sequencer s) e = never_past s
+never_past_of Lamport e = absurd (false≢true e)
+never_past_of Consensus e = absurd (false≢true e)

@@ -3,7 +3,7 @@ use Rattle.std.proofs.Common.{◌≡◌, ℕ, ◌+◌, ◌&&◌, List, [], ◌�
 use Rattle.std.specs.List.{list_all, sum_by, fold}
 use Rattle.std.proofs.lemmas.List.{length-map}
 use Rattle.std.specs.declared.alloc.Global.{Global}
-use Rattle.upd_base.specs.Plan.{all_fit, step_fits, sends_in, changes_in, steps_in, is_plan, plan_of}
+use Rattle.upd_base.specs.Plan.{all_fit, step_fits, sends_in, changes_in, steps_in, is_open, is_plan, plan_of}
 use Rattle.upd_base.specs.Kind.{kind_fits}
 use Rattle.upd_base.specs.declared.kind.Kind.{Kind}
 use Rattle.std.proofs.lemmas.Grind.{common_steps}
@@ -38,7 +38,7 @@ in_maps n ts = record {
 pub is_plan_within : (n : ℕ) (first : Kind) (ts : List (Vec Step Global)) → 1 ≤ n → n ≤ 7 → kind_fits n first ≡ true → 1 ≤ length ts → length ts ≤ 16
     → list_all (λ t. list_all (step_fits n) t.items) ts ≡ true → sum_by (λ t. length t.items) ts ≤ 1000 → sum_by (λ t. changes_in t.items) ts ≤ 32
     → is_plan (plan_of n first (map (λ t. t.items) ts)) ≡ true
-unfolding is_plan
+unfolding is_plan is_open
 is_plan_within n first ts some few k one most fit steps changes =
     let m = in_maps n ts in grind (arith, common_steps, m.count, m.fit, m.steps, m.changes)
 

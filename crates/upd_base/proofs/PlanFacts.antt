@@ -7,7 +7,7 @@ use Rattle.std.proofs.lemmas.List.Sums.{sum_by-cons}
 use Rattle.std.proofs.lemmas.Bool.{and_parts}
 use Rattle.std.proofs.lemmas.Bool.Decides.{nat_tests}
 use Rattle.upd_base.specs.Kind.{KindFits, kind_fits}
-use Rattle.upd_base.specs.Plan.{Planned, is_plan, planned, step_in, step_fits, call_fits, all_fit, steps_in, sends_in, changes_in, send_count, change_count}
+use Rattle.upd_base.specs.Plan.{Planned, is_open, is_plan, planned, step_in, step_fits, call_fits, all_fit, steps_in, sends_in, changes_in, send_count, change_count}
 use Rattle.upd_base.specs.declared.call.Step.{Step}
 use Rattle.upd_base.specs.declared.call.Call.TheVariants.{Send, Change, Suspect, Trust, Crash}
 use Rattle.upd_base.proofs.Fits.{nat_lt-true}
@@ -15,26 +15,35 @@ use Rattle.upd_base.proofs.Fits.{nat_lt-true}
 nat_le-true : (a b : ℕ) → nat_le a b ≡ true → a ≤ b
 nat_le-true a b e = grind (arith, nat_tests)
 
-pub record PlanFacts (p : Planned) : Type 0 where
+-- what the rules of a plan of any length say
+pub record OpenFacts (p : Planned) : Type 0 where
   pub some : 1 ≤ p.members
   pub few : p.members ≤ 7
+  pub first_fits : KindFits p.members p.first
+  pub fit : all_fit p.members p.threads ≡ true
+  pub some_threads : 1 ≤ length p.threads
+  pub few_threads : length p.threads ≤ 16
+
+-- and those of a scenario
+pub record PlanFacts (p : Planned) : Type 0 where
+  pub open_plan : OpenFacts p
+  pub few : p.members ≤ 7
+  pub some : 1 ≤ p.members
   pub first_fits : KindFits p.members p.first
   pub fit : all_fit p.members p.threads ≡ true
   pub few_threads : length p.threads ≤ 16
   pub few_calls : sum_by steps_in p.threads ≤ 1000
   pub few_changes : sum_by changes_in p.threads ≤ 32
 
-pub plan_facts : (p : Planned) → is_plan p ≡ true → PlanFacts p
-unfolding is_plan
-plan_facts p e = parts (nat_le 1 p.members) (nat_le p.members 7) (kind_fits p.members p.first) (nat_le 1 (length p.threads)) (nat_le (length p.threads) 16)
-    (all_fit p.members p.threads) (nat_le (sum_by steps_in p.threads) 1000) (nat_le (sum_by changes_in p.threads) 32) e refl refl refl refl refl refl refl
+pub open_facts : (p : Planned) → is_open p ≡ true → OpenFacts p
+unfolding is_open
+open_facts p e = parts (nat_le 1 p.members) (nat_le p.members 7) (kind_fits p.members p.first) (nat_le 1 (length p.threads)) (nat_le (length p.threads) 16)
+    (all_fit p.members p.threads) e refl refl refl refl refl refl
   where
-    parts : (a b c d e f g h : Bool) → (a && b && c && d && e && f && g && h) ≡ true → nat_le 1 p.members ≡ a → nat_le p.members 7 ≡ b → kind_fits p.members p.first ≡ c → nat_le (length p.threads) 16 ≡ e →
-        all_fit p.members p.threads ≡ f → nat_le (sum_by steps_in p.threads) 1000 ≡ g → nat_le (sum_by changes_in p.threads) 32 ≡ h → PlanFacts p
-    parts a b c d e f g h all pa pb pc pe pf pg ph =
-        let x7 = and_parts (a && b && c && d && e && f && g) h all in
-        let x6 = and_parts (a && b && c && d && e && f) g x7.0 in
-        let x5 = and_parts (a && b && c && d && e) f x6.0 in
+    parts : (a b c d e f : Bool) → (a && b && c && d && e && f) ≡ true → nat_le 1 p.members ≡ a → nat_le p.members 7 ≡ b → kind_fits p.members p.first ≡ c → nat_le 1 (length p.threads) ≡ d → nat_le (length p.threads) 16 ≡ e →
+        all_fit p.members p.threads ≡ f → OpenFacts p
+    parts a b c d e f all pa pb pc pd pe pf =
+        let x5 = and_parts (a && b && c && d && e) f all in
         let x4 = and_parts (a && b && c && d) e x5.0 in
         let x3 = and_parts (a && b && c) d x4.0 in
         let x2 = and_parts (a && b) c x3.0 in
@@ -43,11 +52,32 @@ plan_facts p e = parts (nat_le 1 p.members) (nat_le p.members 7) (kind_fits p.me
           some = nat_le-true 1 p.members (pa ∙ x1.0);
           few = nat_le-true p.members 7 (pb ∙ x1.1);
           first_fits = pc ∙ x2.1;
-          few_threads = nat_le-true (length p.threads) 16 (pe ∙ x4.1);
           fit = pf ∙ x5.1;
-          few_calls = nat_le-true (sum_by steps_in p.threads) 1000 (pg ∙ x6.1);
-          few_changes = nat_le-true (sum_by changes_in p.threads) 32 (ph ∙ x7.1);
+          some_threads = nat_le-true 1 (length p.threads) (pd ∙ x3.1);
+          few_threads = nat_le-true (length p.threads) 16 (pe ∙ x4.1);
         }
+
+-- a plan keeps the rules of one of any length
+pub plan_opens : (p : Planned) → is_plan p ≡ true → is_open p ≡ true
+unfolding is_plan
+plan_opens p e = (and_parts (is_open p) (nat_le (sum_by steps_in p.threads) 1000) (and_parts (is_open p && nat_le (sum_by steps_in p.threads) 1000) (nat_le (sum_by changes_in p.threads) 32) e).0).0
+
+pub plan_facts : (p : Planned) → is_plan p ≡ true → PlanFacts p
+unfolding is_plan
+plan_facts p e =
+    let x = and_parts (is_open p && nat_le (sum_by steps_in p.threads) 1000) (nat_le (sum_by changes_in p.threads) 32) e in
+    let y = and_parts (is_open p) (nat_le (sum_by steps_in p.threads) 1000) x.0 in
+    let f = open_facts p y.0 in
+    record {
+      open_plan = f;
+      few = f.few;
+      some = f.some;
+      first_fits = f.first_fits;
+      fit = f.fit;
+      few_threads = f.few_threads;
+      few_calls = nat_le-true (sum_by steps_in p.threads) 1000 y.1;
+      few_changes = nat_le-true (sum_by changes_in p.threads) 32 x.1;
+    }
 
 pub all_at : {A : Type 0} (test : A → Bool) (xs : List A) (i : ℕ) (x : A) → list_all test xs ≡ true → slice_get xs i ≡ Some x → test x ≡ true
 all_at test [] i x h e = absurd (let q : None ≡ Some x = e in cc)
@@ -63,11 +93,11 @@ step_found n None index s h e = absurd (let q : None ≡ Some s = e in cc)
 step_found n (Some t) index s h e = all_at (step_fits n) t index s (h t (λ i. Some t)) e
 
 -- a planned step fits, and its member is one
-pub planned_fits : (p : Planned) → PlanFacts p → (thread index : ℕ) (s : Step) → planned p thread index ≡ Some s → step_fits p.members s ≡ true
+pub planned_fits : (p : Planned) → OpenFacts p → (thread index : ℕ) (s : Step) → planned p thread index ≡ Some s → step_fits p.members s ≡ true
 planned_fits p f thread index s e =
     step_found p.members (slice_get p.threads thread) index s (λ t q. all_at (list_all (step_fits p.members)) p.threads thread t f.fit q) e
 
-pub planned_member : (p : Planned) → PlanFacts p → (thread index : ℕ) (s : Step) → planned p thread index ≡ Some s → s.at < p.members
+pub planned_member : (p : Planned) → OpenFacts p → (thread index : ℕ) (s : Step) → planned p thread index ≡ Some s → s.at < p.members
 planned_member p f thread index s e = nat_lt-true s.at p.members (and_parts (nat_lt s.at p.members) (call_fits p.members s.at s.call) (planned_fits p f thread index s e)).0
 
 -- each element adds its part to a sum

@@ -5,7 +5,7 @@ use Rattle.std.specs.Cmp.Lexicographic.{pointwise_decides}
 use Rattle.upd_base.specs.declared.item.Item.{Item}
 use Rattle.upd_base.specs.declared.body.Body.{Body}
 use Rattle.upd_base.specs.declared.frame.Frame.{Frame}
-use Rattle.upd_base.specs.declared.body.Body.TheVariants.{Ask, Ord, Req, Ack, Rb, Est, Prop, Reply, Next, Decide}
+use Rattle.upd_base.specs.declared.body.Body.TheVariants.{Ask, Ord, Req, Ack, Rb, Est, Prop, Reply, Next, Decide, Past}
 use Rattle.upd_base.specs.contracts.item.ItemPartialEq.TheImpl as item_eq
 use Rattle.upd_base.specs.contracts.batch.BatchPartialEq.TheImpl as batch_eq
 use Rattle.upd_base.specs.contracts.body.BodyPartialEq.TheImpl as body_eq
@@ -28,6 +28,7 @@ bodies_decide (Prop k r x) (Prop l q y) = search (rules, batches_decide)
 bodies_decide (Reply k r x) (Reply l q y) = search rules
 bodies_decide (Next k r) (Next l q) = search rules
 bodies_decide (Decide k x) (Decide l y) = search (rules, batches_decide)
+bodies_decide Past Past = search rules
 bodies_decide a b = search rules
 
 pub frames_decide : (a b : Frame) → Decides ((frame_eq.ghosts).eq a b) (a ≡ b)

@@ -1,9 +1,9 @@
--- Bodies: what modules of one version send to each other.
-use Rattle.std.specs.Prelude.{ℕ, Bool, true, ◌≡◌, ◌&&◌, nat_le}
+-- Bodies: what modules of one version send to each other, and what a member says of a version that it has left.
+use Rattle.std.specs.Prelude.{ℕ, Bool, true, false, ◌≡◌, ◌&&◌, nat_le}
 use Rattle.std.specs.List.{list_all}
 use Rattle.upd_base.specs.Item.{item_fits}
 use Rattle.upd_base.specs.declared.body.Body.{Body}
-use Rattle.upd_base.specs.declared.body.Body.TheVariants.{Ask, Ord, Req, Ack, Rb, Est, Prop, Reply, Next, Decide}
+use Rattle.upd_base.specs.declared.body.Body.TheVariants.{Ask, Ord, Req, Ack, Rb, Est, Prop, Reply, Next, Decide, Past}
 
 -- each member that a body names is below n
 abbrev pub body_fits : ℕ → Body → Bool
@@ -17,6 +17,7 @@ body_fits n (Prop instance round batch) = list_all (item_fits n) batch
 body_fits n (Reply instance round accepts) = true
 body_fits n (Next instance round) = true
 body_fits n (Decide instance batch) = list_all (item_fits n) batch
+body_fits n Past = true
 
 -- the same as a fact
 abbrev pub BodyFits : ℕ → Body → Type 0
@@ -34,3 +35,9 @@ is_body (Prop instance round batch) = nat_le 1 instance && nat_le 1 round
 is_body (Reply instance round accepts) = nat_le 1 instance && nat_le 1 round
 is_body (Next instance round) = nat_le 1 instance && nat_le 1 round
 is_body (Decide instance batch) = nat_le 1 instance
+is_body Past = true
+
+-- what a member says of a version that it has left, which no module gets
+abbrev pub is_past : Body → Bool
+is_past Past = true
+is_past body = false

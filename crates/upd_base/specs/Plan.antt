@@ -52,9 +52,14 @@ changes_in steps = sum_by (λ s. change_count s.call) steps
 abbrev pub all_fit : ℕ → List (List Step) → Bool
 all_fit n threads = list_all (list_all (step_fits n)) threads
 
+-- The rules that a plan of any length keeps: 1 to 7 members, a first kind that fits them, 1 to 16 threads, calls that fit.
+unfoldable pub is_open : Planned → Bool
+is_open p = nat_le 1 p.members && nat_le p.members MAX_MEMBERS && kind_fits p.members p.first && nat_le 1 (length p.threads) && nat_le (length p.threads) MAX_THREADS
+    && all_fit p.members p.threads
+
+-- and those of a scenario, which has few calls and fewer changes
 unfoldable pub is_plan : Planned → Bool
-is_plan p = nat_le 1 p.members && nat_le p.members MAX_MEMBERS && kind_fits p.members p.first && nat_le 1 (length p.threads) && nat_le (length p.threads) MAX_THREADS
-    && all_fit p.members p.threads && nat_le (sum_by steps_in p.threads) MAX_CALLS && nat_le (sum_by changes_in p.threads) MAX_CHANGES
+is_plan p = is_open p && nat_le (sum_by steps_in p.threads) MAX_CALLS && nat_le (sum_by changes_in p.threads) MAX_CHANGES
 
 -- the plan of these, where it is one
 abbrev pub plan_of : ℕ → Kind → List (List Step) → Planned

@@ -1,4 +1,5 @@
-//! The messages of all three ordering protocols, as modules of one version send them to each other.
+//! The messages of all three ordering protocols, as modules of one version send them to each other,
+//! and what a member says of a version that it has left.
 ghost use Rattle.std.specs.Prelude.{◌≡◌, IfOk};
 ghost use Rattle.upd_base.specs.Body.{body_fits, is_body};
 
@@ -7,8 +8,9 @@ use crate::item::Item;
 use crate::no_memory::NoMemory;
 use std::alloc::Global;
 
-/// What modules of one version send to each other. Places, instances, rounds and the stamps of
-/// requests and acknowledgements count from 1; the stamp of an estimate may be 0.
+/// What modules of one version send to each other, and what members say of a version. Places,
+/// instances, rounds and the stamps of requests and acknowledgements count from 1; the stamp of an
+/// estimate may be 0.
 #[derive(Debug, Drop, PartialEq, Eq)]
 pub enum Body {
     /// Fixed sequencer: order this item.
@@ -62,6 +64,8 @@ pub enum Body {
         instance: u64,
         batch: Batch,
     },
+    /// From a member and not from a module: it has left the frame's version. No module gets it.
+    Past,
 }
 
 impl Body {
@@ -118,6 +122,7 @@ impl Body {
                 instance: *instance,
                 batch: batch.copy(alloc)?,
             }),
+            Body::Past => Ok(Body::Past),
         }
     }
 
@@ -133,7 +138,7 @@ impl Body {
             Body::Est { batch, .. } | Body::Prop { batch, .. } | Body::Decide { batch, .. } => {
                 batch.fits(n)
             }
-            Body::Ack { .. } | Body::Reply { .. } | Body::Next { .. } => true,
+            Body::Ack { .. } | Body::Reply { .. } | Body::Next { .. } | Body::Past => true,
         }
     }
 
@@ -143,7 +148,7 @@ impl Body {
         ensures { result ≡ is_body self.now }
     {
         match self {
-            Body::Ask { .. } | Body::Rb { .. } => true,
+            Body::Ask { .. } | Body::Rb { .. } | Body::Past => true,
             Body::Ord { place, .. } => *place >= 1,
             Body::Req { stamp, .. } | Body::Ack { stamp } => *stamp >= 1,
             Body::Est {

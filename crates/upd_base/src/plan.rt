@@ -120,7 +120,7 @@ impl Plan {
     }
 }
 
-#[tactic(auto, unfolding(crate::specs::Plan::is_plan))]
+#[tactic(auto, unfolding(crate::specs::Plan::is_plan, crate::specs::Plan::is_open))]
 fn within_limits(members: u8, first: &Kind, threads: &[Vec<Step>]) -> bool
     ensures { result ≡ is_plan (plan_of members first.now (map (λ t. t.items) threads.now)) }
 {

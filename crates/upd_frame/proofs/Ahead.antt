@@ -241,6 +241,7 @@ ahead_body tags.Prop = ahead_bind count _ ahead_count (λ k. ahead_bind count _ 
 ahead_body tags.Reply = ahead_bind count _ ahead_count (λ k. ahead_bind count _ ahead_count (λ r. ahead_bind (byte flag_of BadTag) _ (ahead_byte flag_of BadTag (λ n. tt)) (λ y. ahead_done _)))
 ahead_body tags.Next = ahead_bind count _ ahead_count (λ k. ahead_bind count _ ahead_count (λ r. ahead_done _))
 ahead_body tags.Decide = ahead_bind count _ ahead_count (λ k. ahead_bind batch _ ahead_batch (λ b. ahead_done _))
+ahead_body tags.Past = ahead_done _
 
 pub ahead_frame : Ahead frame
 unfolding frame

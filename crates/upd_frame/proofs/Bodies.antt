@@ -6,7 +6,7 @@ use Rattle.std.proofs.lemmas.Bool.{cases_eq, ne_eqb, eq-eqb, eqb-true, leb-true,
 use Rattle.std.proofs.lemmas.List.{append-nil, nil_from_length, length-append, take_at, drop_at}
 use Rattle.upd_base.specs.declared.item.Item.{Item}
 use Rattle.upd_base.specs.declared.body.Body.{Body}
-use Rattle.upd_base.specs.declared.body.Body.TheVariants.{Ask, Ord, Req, Ack, Rb, Est, Prop, Reply, Next, Decide}
+use Rattle.upd_base.specs.declared.body.Body.TheVariants.{Ask, Ord, Req, Ack, Rb, Est, Prop, Reply, Next, Decide, Past}
 use Rattle.upd_base.specs.declared.frame.Frame.{Frame}
 use Rattle.upd_base.specs.declared.limits.TheConstants.{MAX_VERSION}
 use Rattle.upd_frame.specs.declared.fault.FrameFault.{FrameFault}
@@ -55,6 +55,7 @@ tag_byte tags.Prop = 7
 tag_byte tags.Reply = 8
 tag_byte tags.Next = 9
 tag_byte tags.Decide = 10
+tag_byte tags.Past = 11
 
 -- a test for one byte, and what is said of the others
 one_of : (b n : ℕ) (u t : Tag) (other : Option Tag) → tag_byte u ≡ n → cond (eqb b n) (Some u) other ≡ Some t → (other ≡ Some t → b ≡ tag_byte t) → b ≡ tag_byte t
@@ -71,7 +72,7 @@ pub tag_is : (b : ℕ) (t : Tag) → tag_of b ≡ Some t → b ≡ tag_byte t
 tag_is b t e =
     one_of b 1 tags.Ask t _ refl e (λ e. one_of b 2 tags.Ord t _ refl e (λ e. one_of b 3 tags.Req t _ refl e (λ e. one_of b 4 tags.Ack t _ refl e (λ e. one_of b 5 tags.Rb t _ refl e
     (λ e. one_of b 6 tags.Est t _ refl e (λ e. one_of b 7 tags.Prop t _ refl e (λ e. one_of b 8 tags.Reply t _ refl e (λ e. one_of b 9 tags.Next t _ refl e (λ e. one_of b 10 tags.Decide t _ refl e
-    (λ e. absurd (none-some t e)))))))))))
+    (λ e. one_of b 11 tags.Past t _ refl e (λ e. absurd (none-some t e))))))))))))
 
 -- ---- bodies
 
@@ -151,6 +152,9 @@ content tags.Decide all left p fits e =
     let a = two_takes count (digits w64) IsCount counts batch batch_bytes IsBatch batches (λ k x. Decide k x) all left p fits e in
     let made : Content tags.Decide left (Decide a.0 a.1, a.2) = record { text = digits w64 a.0 ++ batch_bytes a.1; takes = a.3; spelt = refl; within = (a.4, a.5) } in
     subst (Content tags.Decide left) a.6 made
+content tags.Past all left p fits e =
+    let made : Content tags.Past left (Past, left) = record { text = []; takes = record { parts = refl; rest_fits = fits }; spelt = refl; within = tt } in
+    subst (Content tags.Past left) (ok_is (Past, left) p e) made
 
 -- a spelling begins with a tag, behind which the body is read
 record Again (b : Body) : Type 0 where
@@ -220,6 +224,7 @@ again (Decide k b) within = record {
   spelt = refl;
   reads = λ all rest. rw (append_assoc (digits w64 k) (batch_bytes b) rest, count_again all k (batch_bytes b ++ rest) within.0, batches.again all b rest within.1) refl;
 }
+again Past within = record { tag = tags.Past; text = []; spelt = refl; reads = λ all rest. refl }
 
 tag_again : (t : Tag) → tag_of (tag_byte t) ≡ Some t
 tag_again tags.Ask = refl
@@ -232,6 +237,7 @@ tag_again tags.Prop = refl
 tag_again tags.Reply = refl
 tag_again tags.Next = refl
 tag_again tags.Decide = refl
+tag_again tags.Past = refl
 
 -- ---- frames
 

@@ -10,7 +10,7 @@ use Rattle.upd_base.specs.declared.kind.Kind.{Kind}
 use Rattle.upd_base.specs.declared.item.Item.{Item}
 use Rattle.upd_base.specs.declared.item.Item.TheVariants.{Msg, Switch}
 use Rattle.upd_base.specs.declared.body.Body.{Body}
-use Rattle.upd_base.specs.declared.body.Body.TheVariants.{Ask, Ord, Req, Ack, Rb, Est, Prop, Reply, Next, Decide}
+use Rattle.upd_base.specs.declared.body.Body.TheVariants.{Ask, Ord, Req, Ack, Rb, Est, Prop, Reply, Next, Decide, Past}
 use Rattle.upd_base.specs.declared.frame.Frame.{Frame}
 use Rattle.upd_frame.specs.declared.fault.FrameFault.{FrameFault}
 use Rattle.upd_frame.specs.declared.fault.FrameFault.TheVariants.{Short, LongTail, BadTag, BadNumber, BadText, NoMemory}
@@ -78,6 +78,7 @@ body_law tags.Prop all m = field (count all m) _ drops _ (rest_of all) (λ k m. 
 body_law tags.Reply all m = field (count all m) _ drops _ (rest_of all) (λ k m. field (count all m) _ drops _ (rest_of all) (λ r m. field (byte flag_of BadTag all m) _ drops _ (rest_of all) (λ y m. refl)))
 body_law tags.Next all m = field (count all m) _ drops _ (rest_of all) (λ k m. field (count all m) _ drops _ (rest_of all) (λ r m. refl))
 body_law tags.Decide all m = field (count all m) _ drops _ (rest_of all) (λ k m. many all m (λ b. Decide k b))
+body_law tags.Past all m = refl
 
 abbrev framed : ℕ → Body → Frame
 framed version b = record { version = version; body = b }
@@ -130,6 +131,7 @@ ahead_head_of tags.Prop = ahead_bind count _ ahead_count (λ k. ahead_bind count
 ahead_head_of tags.Reply = ahead_bind count _ ahead_count (λ k. ahead_bind count _ ahead_count (λ r. ahead_bind (byte flag_of BadTag) _ (ahead_byte flag_of BadTag (λ n. tt)) (λ y. ahead_done _)))
 ahead_head_of tags.Next = ahead_bind count _ ahead_count (λ k. ahead_bind count _ ahead_count (λ r. ahead_done _))
 ahead_head_of tags.Decide = ahead_bind count _ ahead_count (λ k. ahead_byte (only is_count) BadNumber (λ n. tt))
+ahead_head_of tags.Past = ahead_done _
 
 ahead_head : Ahead head
 unfolding head

@@ -51,6 +51,7 @@ head_of tags.Next = do
 head_of tags.Decide = do
   k ← count
   byte (only is_count) BadNumber
+head_of tags.Past = done 0
 
 unfoldable pub head : Reader ℕ
 head = do

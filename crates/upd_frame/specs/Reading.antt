@@ -7,7 +7,7 @@ use Rattle.upd_base.specs.declared.kind.Kind.TheVariants.{Sequencer, Lamport, Co
 use Rattle.upd_base.specs.declared.item.Item.{Item}
 use Rattle.upd_base.specs.declared.item.Item.TheVariants.{Msg, Switch}
 use Rattle.upd_base.specs.declared.body.Body.{Body}
-use Rattle.upd_base.specs.declared.body.Body.TheVariants.{Ask, Ord, Req, Ack, Rb, Est, Prop, Reply, Next, Decide}
+use Rattle.upd_base.specs.declared.body.Body.TheVariants.{Ask, Ord, Req, Ack, Rb, Est, Prop, Reply, Next, Decide, Past}
 use Rattle.upd_base.specs.declared.frame.Frame.{Frame}
 use Rattle.upd_base.specs.declared.limits.TheConstants.{MAX_MEMBERS, MAX_VERSION, MAX_PAYLOAD, MAX_BATCH}
 use Rattle.upd_frame.specs.declared.fault.FrameFault.{FrameFault}
@@ -39,7 +39,7 @@ any n = true
 abbrev pub tag_of : ℕ → Option Tag
 tag_of b = if b == 1 then Some tags.Ask else if b == 2 then Some tags.Ord else if b == 3 then Some tags.Req else if b == 4 then Some tags.Ack
     else if b == 5 then Some tags.Rb else if b == 6 then Some tags.Est else if b == 7 then Some tags.Prop else if b == 8 then Some tags.Reply
-    else if b == 9 then Some tags.Next else if b == 10 then Some tags.Decide else None
+    else if b == 9 then Some tags.Next else if b == 10 then Some tags.Decide else if b == 11 then Some tags.Past else None
 
 -- no and yes
 abbrev pub flag_of : ℕ → Option Bool
@@ -144,6 +144,7 @@ body tags.Decide = do
   instance ← count
   items ← batch
   done (Decide instance items)
+body tags.Past = done Past
 
 unfoldable pub frame : Reader Frame
 frame = do

@@ -10,7 +10,7 @@ use Rattle.upd_base.specs.declared.kind.Kind.TheVariants.{Sequencer, Lamport, Co
 use Rattle.upd_base.specs.declared.item.Item.{Item}
 use Rattle.upd_base.specs.declared.item.Item.TheVariants.{Msg, Switch}
 use Rattle.upd_base.specs.declared.body.Body.{Body}
-use Rattle.upd_base.specs.declared.body.Body.TheVariants.{Ask, Ord, Req, Ack, Rb, Est, Prop, Reply, Next, Decide}
+use Rattle.upd_base.specs.declared.body.Body.TheVariants.{Ask, Ord, Req, Ack, Rb, Est, Prop, Reply, Next, Decide, Past}
 use Rattle.upd_base.specs.declared.frame.Frame.{Frame}
 use Rattle.upd_base.specs.declared.limits.TheConstants.{MAX_MEMBERS, MAX_VERSION}
 
@@ -48,6 +48,7 @@ body_bytes (Prop instance round batch) = (7 ∷ []) ++ digits w64 instance ++ di
 body_bytes (Reply instance round accepts) = (8 ∷ []) ++ digits w64 instance ++ digits w64 round ++ (flag_byte accepts ∷ [])
 body_bytes (Next instance round) = (9 ∷ []) ++ digits w64 instance ++ digits w64 round
 body_bytes (Decide instance batch) = (10 ∷ []) ++ digits w64 instance ++ batch_bytes batch
+body_bytes Past = 11 ∷ []
 
 -- the version, and the body
 unfoldable pub spelling : Frame → List ℕ
@@ -77,6 +78,7 @@ IsBody (Prop instance round batch) = IsCount instance × IsCount round × IsBatc
 IsBody (Reply instance round accepts) = IsCount instance × IsCount round
 IsBody (Next instance round) = IsCount instance × IsCount round
 IsBody (Decide instance batch) = IsCount instance × IsBatch batch
+IsBody Past = Unit {0}
 
 pub record IsFrame (f : Frame) : Type 0 where
   pub version : f.version ≤ MAX_VERSION

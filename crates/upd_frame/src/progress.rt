@@ -69,6 +69,7 @@ fn head_of(all: usize, tag: Tag, left: &mut &[u8]) -> Result<u8, FrameFault>
             counting_at(all, left)?;
             count_at(all, left)
         }
+        Tag::Past => Ok(0),
     }
 }
 

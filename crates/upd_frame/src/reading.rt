@@ -417,6 +417,7 @@ fn body_at(alloc: Global, all: usize, tag: Tag, left: &mut &[u8]) -> Result<Body
             instance: counting_at(all, left)?,
             batch: batch_at(alloc, all, left)?,
         }),
+        Tag::Past => Ok(Body::Past),
     }
 }
 

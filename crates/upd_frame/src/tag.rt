@@ -1,4 +1,4 @@
-//! The byte that tells which protocol message a frame carries: 1 to 10, and any other is no tag.
+//! The byte that tells which message a frame carries: 1 to 11, and any other is no tag.
 ghost use Rattle.std.specs.Prelude.{◌≡◌};
 ghost use Rattle.upd_frame.specs.Reading.{tag_of};
 
@@ -15,6 +15,7 @@ pub(crate) enum Tag {
     Reply,
     Next,
     Decide,
+    Past,
 }
 
 /// The tag of this byte.
@@ -32,6 +33,7 @@ pub(crate) fn tag_of(byte: u8) -> Option<Tag>
         8 => Some(Tag::Reply),
         9 => Some(Tag::Next),
         10 => Some(Tag::Decide),
+        11 => Some(Tag::Past),
         _ => None,
     }
 }

@@ -185,6 +185,10 @@ fn put_body(out: &mut Vec<u8>, body: &Body) -> Result<(), NoMemory>
             put_u64(out, *instance)?;
             put_batch(out, batch)
         }
+        Body::Past => {
+            out.push(11)?;
+            Ok(())
+        }
     }
 }
 

@@ -1,5 +1,5 @@
-use Rattle.consensus_laws.proofs.Laws.{agreement_of, integrity_of, fulfilment_of, bound_of}
+use Rattle.consensus_laws.proofs.Laws.{agreement_of, integrity_of, fulfilment_of, bound_of, never_past_of}
 use Rattle.consensus_laws.proofs.consensus_laws.Goals as goal
 
 pub returns : goal.returns
-returns c = record { agreement = agreement_of; integrity = integrity_of; fulfilment = fulfilment_of; bound = bound_of }
+returns c = record { agreement = agreement_of; integrity = integrity_of; fulfilment = fulfilment_of; bound = bound_of; never_past = never_past_of }

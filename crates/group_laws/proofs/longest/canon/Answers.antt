@@ -1,14 +1,14 @@
 use Rattle.std.proofs.Common.{ℕ, ◌≡◌, ◌<◌, ◌≤◌, ◌∙◌, ap, subst, sym, refl, arith, length}
 use Rattle.member_rules.specs.Kept.{rules_of}
 use Rattle.group_run.specs.Run.{log_in}
-use Rattle.upd_base.proofs.PlanFacts.{plan_facts}
+use Rattle.upd_base.proofs.PlanFacts.{open_facts}
 use Rattle.run_journal.specs.Journal.{plan_of, past_of}
 use Rattle.group_laws.specs.Canon.{longest_below}
 use Rattle.group_laws.proofs.Leading.{leads_all, log_begins}
 use Rattle.group_laws.proofs.longest.canon.Goals as goal
 
 pub loop-i-init : goal.loop-i-init
-loop-i-init g c = record { lead = refl; fits = (plan_facts (plan_of c.args.journal.now) c.plan.ensures.run.of_plan).some }
+loop-i-init g c = record { lead = refl; fits = (open_facts (plan_of c.args.journal.now) c.plan.ensures.run.of_plan).some }
 
 pub returns-clause-value : goal.returns-clause-value
 returns-clause-value g c =

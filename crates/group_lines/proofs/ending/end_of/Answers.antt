@@ -1,7 +1,7 @@
 use Rattle.std.proofs.Common.{◌∙◌, ◌<◌, arith, ap, get_or, length, subst, sym}
 use Rattle.member_rules.specs.Kept.{rules_of}
 use Rattle.upd_base.specs.Plan.{bound}
-use Rattle.upd_base.proofs.PlanFacts.{plan_facts}
+use Rattle.upd_base.proofs.PlanFacts.{open_facts}
 use Rattle.run_journal.specs.Journal.{plan_of, past_of}
 use Rattle.line_rules.specs.declared.line_state.LineState.TheVariants.{Missing}
 use Rattle.group_lines.specs.Visits.{LinkStands}
@@ -11,13 +11,13 @@ use Rattle.group_lines.proofs.ending.end_of.Goals as goal
 
 pub link_at-from-requires-clause-few : goal.link_at-from-requires-clause-few
 link_at-from-requires-clause-few g c =
-    let f = (plan_facts (plan_of c.args.journal.now) c.plan.ensures.run.of_plan).few in
+    let f = (open_facts (plan_of c.args.journal.now) c.plan.ensures.run.of_plan).few in
     let e = ap (λ p. p.members) c.plan-2.ensures.value in
     omega arith
 
 pub link_at-from-requires-in-Some-lowest_down-clause-few : goal.link_at-from-requires-in-Some-lowest_down-clause-few
 link_at-from-requires-in-Some-lowest_down-clause-few g c =
-    let f = (plan_facts (plan_of c.args.journal.now) c.plan.ensures.run.of_plan).few in
+    let f = (open_facts (plan_of c.args.journal.now) c.plan.ensures.run.of_plan).few in
     let e = ap (λ p. p.members) c.plan-2.ensures.value in
     omega arith
 

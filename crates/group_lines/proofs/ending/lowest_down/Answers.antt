@@ -1,6 +1,6 @@
 use Rattle.std.proofs.Common.{◌∙◌, ◌+◌, ◌*◌, arith, ap, subst}
 use Rattle.member_rules.specs.Kept.{rules_of}
-use Rattle.upd_base.proofs.PlanFacts.{plan_facts}
+use Rattle.upd_base.proofs.PlanFacts.{open_facts}
 use Rattle.run_journal.specs.Journal.{plan_of, past_of}
 use Rattle.group_lines.specs.Visits.{LinkStands}
 use Rattle.group_lines.proofs.OneLink.{place_within, stands}
@@ -9,7 +9,7 @@ use Rattle.group_lines.proofs.ending.lowest_down.Goals as goal
 
 pub link_at-from-requires-clause-few : goal.link_at-from-requires-clause-few
 link_at-from-requires-clause-few g c =
-    let f = (plan_facts (plan_of c.args.journal.now) c.plan.ensures.run.of_plan).few in
+    let f = (open_facts (plan_of c.args.journal.now) c.plan.ensures.run.of_plan).few in
     let e = ap (λ p. p.members) c.plan.ensures.value in
     omega arith
 

@@ -1,6 +1,6 @@
 use Rattle.std.proofs.Common.{◌∙◌, ◌<◌, None, arith, ap, get_or, subst, refl, length}
 use Rattle.member_rules.specs.Kept.{rules_of}
-use Rattle.upd_base.proofs.PlanFacts.{plan_facts}
+use Rattle.upd_base.proofs.PlanFacts.{open_facts}
 use Rattle.run_journal.specs.Journal.{plan_of, past_of}
 use Rattle.group_lines.specs.Visits.{LinkStands}
 use Rattle.group_lines.proofs.Ready.{later_one}
@@ -9,7 +9,7 @@ use Rattle.group_lines.proofs.rounds.visit_link.Goals as goal
 
 pub link_at-from-requires-clause-few : goal.link_at-from-requires-clause-few
 link_at-from-requires-clause-few g c =
-    let f = (plan_facts (plan_of c.args.journal.now) c.plan.ensures.run.of_plan).few in
+    let f = (open_facts (plan_of c.args.journal.now) c.plan.ensures.run.of_plan).few in
     let e = ap (λ p. p.members) c.plan.ensures.value in
     omega arith
 

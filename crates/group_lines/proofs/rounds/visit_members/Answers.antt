@@ -1,6 +1,6 @@
 use Rattle.std.proofs.Common.{arith, ap, subst}
 use Rattle.member_rules.specs.Kept.{rules_of}
-use Rattle.upd_base.proofs.PlanFacts.{plan_facts}
+use Rattle.upd_base.proofs.PlanFacts.{open_facts}
 use Rattle.group_run.specs.Run.{IsRelease}
 use Rattle.run_journal.specs.Journal.{plan_of, past_of}
 use Rattle.group_lines.specs.Visits.{IsIdle, IsNotFull, MadeOne}
@@ -9,7 +9,7 @@ use Rattle.group_lines.proofs.rounds.visit_members.Goals as goal
 
 pub member_at-requires : goal.member_at-requires
 member_at-requires g c =
-    let f = (plan_facts (plan_of c.args.journal.now) c.plan.ensures.run.of_plan).few in
+    let f = (open_facts (plan_of c.args.journal.now) c.plan.ensures.run.of_plan).few in
     let e = ap (λ p. p.members) c.plan.ensures.value in
     omega arith
 

@@ -1,5 +1,5 @@
-use Rattle.std.proofs.Common.{◌∙◌, ◌≤◌, sym, ap, subst, length, arith}
-use Rattle.upd_base.specs.Plan.{Planned, bound}
+use Rattle.std.proofs.Common.{◌∙◌, ◌≡◌, ◌≤◌, true, sym, ap, subst, length, arith}
+use Rattle.upd_base.specs.Plan.{Planned, bound, is_plan}
 use Rattle.member_rules.specs.Kept.{rules_of}
 use Rattle.run_journal.specs.Journal.{plan_of, past_of}
 use Rattle.line_rules.specs.Lines.{ComeBack, IsAside}
@@ -13,7 +13,7 @@ use Rattle.member_threads.proofs.running.share_out.Goals as goal
 pub run_workers-pass-requires-clause-workers : goal.run_workers-pass-requires-clause-workers
 run_workers-pass-requires-clause-workers g c = λ _ _.
     let s = c.in-Ok.ensures in
-    may_start c.in-Ok.group g.L.Line _ c.args.journal c.in-Ok.pass _ _ _ s.shared s.of s.seen s.own s.parts c.plan.ensures.run.of_plan (c.members-members.ensures ∙ ap (λ (p : Planned). p.members) c.plan.ensures.value)
+    may_start c.in-Ok.group g.L.Line _ c.args.journal c.in-Ok.pass _ _ _ s.shared s.of s.seen s.own s.parts (subst (λ p. is_plan p ≡ true) c.plan-3.ensures.value c.keeps_limits.ensures) (c.members-members.ensures ∙ ap (λ (p : Planned). p.members) c.plan.ensures.value)
     (c.threads-threads.ensures ∙ ap (λ (p : Planned). length p.threads) c.plan-2.ensures.value) c.requires.places c.requires.stated (even_each g.L.Line _ c.requires.even)
 
 pub run_workers-pass-requires-clause-threads : goal.run_workers-pass-requires-clause-threads

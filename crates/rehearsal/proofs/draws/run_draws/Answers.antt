@@ -1,7 +1,7 @@
 use Rattle.std.proofs.Common.{◌≡◌, ◌<◌, ◌≤◌, ◌∙◌, arith, ap, subst, sym, length}
 use Rattle.member_rules.specs.Kept.{rules_of}
 use Rattle.upd_base.specs.Plan.{bound}
-use Rattle.upd_base.proofs.PlanFacts.{plan_facts}
+use Rattle.upd_base.proofs.PlanFacts.{open_facts}
 use Rattle.group_run.specs.Run.{Events}
 use Rattle.std.proofs.Common.{true}
 use Rattle.group_run.specs.Settled.{IsSettled}
@@ -14,7 +14,7 @@ use Rattle.rehearsal.proofs.DrawLaws.{draw_longer, draw_same, draw_settled, draw
 use Rattle.rehearsal.proofs.draws.run_draws.Goals as goal
 
 pub choices-requires : goal.choices-requires
-choices-requires g c = let f = (plan_facts (plan_of c.args.journal.now) c.plan.ensures.run.of_plan).few in let e = ap (λ p. p.members) c.plan.ensures.value in omega arith
+choices-requires g c = let f = (open_facts (plan_of c.args.journal.now) c.plan.ensures.run.of_plan).few in let e = ap (λ p. p.members) c.plan.ensures.value in omega arith
 
 pub returns-in_err-choices-clause-err : goal.returns-in_err-choices-clause-err
 returns-in_err-choices-clause-err g c =

@@ -1,7 +1,8 @@
 use Rattle.std.proofs.Common.{◌≡◌, ◌++◌, map}
 use Rattle.std.specs.Vec.Iter.{into_iter_items}
 use Rattle.replacement.specs.declared.act.Act.TheVariants.{Deliver}
-use Rattle.replacement.specs.Repl.{counted, left, next_kind}
+use Rattle.replacement.specs.Repl.{counted, left}
+use Rattle.group_run.specs.Version.{next_kind}
 use Rattle.replacement.proofs.repl.deliver.Given as goal
 
 abbrev pub invariant-loop-item : goal.invariant-loop-item

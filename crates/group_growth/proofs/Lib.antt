@@ -1,0 +1,5 @@
+pub mod Plans
+pub mod Alike
+pub mod Saying
+pub mod Logs
+pub mod Acting
