@@ -5,10 +5,11 @@ ghost use Rattle.member_rules.specs.Kept.{rules_of};
 ghost use Rattle.group_run.specs.Ordered.{IsOrdered};
 ghost use Rattle.group_run.specs.Settled.{IsFulfilled, IsQuiet, IsSettled, IsTrusting};
 ghost use Rattle.run_journal.specs.Journal.{plan_of, past_of};
+ghost use Rattle.group_laws.specs.Versions.{IsVersioned};
 
 use group_bound::trusting_runs_are_bounded;
 use group_fulfilment::settled_quiet_runs_are_fulfilled;
-use group_order::runs_are_ordered;
+use group_order::{runs_are_ordered, segments_are_whole, versions_count_switches};
 use order_trait::Ordering;
 use run_journal::Journal;
 
@@ -38,4 +39,14 @@ pub fn journal_is_bounded<O: Ordering>(journal: &Journal<O>)
 {
     journal.plan();
     trusting_runs_are_bounded();
+}
+
+/// The version of a member is the number of switches in its log, each further version has the kind of the switch that
+/// ended the one below, and what counts of a version is what its module delivered up to and with the first switch.
+pub fn journal_is_versioned<O: Ordering>(journal: &Journal<O>)
+    ensures { IsVersioned (rules_of O.Ordering) (plan_of journal.now) (past_of journal.now) }
+{
+    journal.plan();
+    versions_count_switches();
+    segments_are_whole();
 }

@@ -134,20 +134,3 @@ makes_sent G k p part text item m given is makes =
     let turn : called (group_of G k) k.me part (Send text) (given_by p) ≡ issued (group_of G k) k.me part item =
     ap (λ o. called (group_of G k) k.me part (Send text) (unwrap_or o Done)) given ∙ ap (issued (group_of G k) k.me part) (sym same) in
     subst (λ (t : Turn). MakesTurn G k p t) (sym turn) makes
-
--- Events that are prepared and committed at once ---------------------------------------------------------------------
-
-pub settled : {O : Type 0} (P : Kept O → Type 0) (k k1 k2 : Kept O) (p : Prepared O) → k2 ≡ committed k1 p → k1 ≡ k → P (committed k p) → P k2
-settled P k k1 k2 p made same h = subst P (ap (λ j. committed j p) (sym same) ∙ sym made) h
-
--- a release where no version is reached makes nothing
-pub turn_unready : {O : Type 0} (G : Ghosts O) (k : Kept O) (past : List (Input Outer Frame)) → IsMember G k → Stands G k past → is_some (first_ready k.repl.version k.held) ≡ false
-    → turn_of (group_of G k) k.me (Called Releases ∷ past) ≡ still (part_of G k past)
-turn_unready G k past m h none = go (first_ready (version part) part.held) (ap is_some (ready_is G (group_of G k) k.me k part m h) ∙ none)
-  where
-    part : Part
-    part = part_of G k past
-
-    go : (o : Option (ℕ × Frame)) → is_some o ≡ false → released (group_of G k) k.me part o ≡ still part
-    go None e = refl
-    go (Some f) e = absurd (let q : true ≡ false = e in cc)

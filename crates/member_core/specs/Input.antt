@@ -1,5 +1,5 @@
 -- What comes to a member.
-use Rattle.std.specs.Prelude.{ℕ, Bool, true, false, ◌≡◌, ◌<◌, IsSome, Option, Some, None}
+use Rattle.std.specs.Prelude.{ℕ, Bool, true, false, ◌≡◌, ◌<◌, ◌&&◌, not, nat_le, length, IsSome, Option, Some, None}
 use Rattle.fifo_net.specs.Net.{Input as NetInput, Called, Took}
 use Rattle.order_trait.specs.declared.ordering.Ordering.{Ghosts}
 use Rattle.upd_base.specs.Body.{BodyFits, is_body}
@@ -8,8 +8,9 @@ use Rattle.upd_base.specs.declared.frame.Frame.{Frame}
 use Rattle.upd_base.specs.declared.call.Call.{Call as PlannedCall}
 use Rattle.upd_base.specs.declared.call.Call.TheVariants.{Change}
 use Rattle.upd_base.specs.declared.answer.Answer.{Answer}
-use Rattle.group_run.specs.Group.{Outer, Makes, Releases}
-use Rattle.group_run.specs.Part.{Part}
+use Rattle.upd_base.specs.declared.limits.TheConstants.{MAX_UNDELIVERED}
+use Rattle.group_run.specs.Group.{Group, Outer, Makes, Releases}
+use Rattle.group_run.specs.Part.{Part, undelivered}
 use Rattle.group_run.specs.Held.{first_ready}
 use Rattle.group_run.specs.Answer.{answer}
 use Rattle.member_rules.specs.Kept.{Kept, group_of}
@@ -66,3 +67,7 @@ abbrev pub answer_to : {O : Type 0} (G : Ghosts O) → Kept O → Part → Input
 answer_to G k part (Call call) = Some (answer (group_of G k) k.me part call)
 answer_to G k part (Receive from frame) = None
 answer_to G k part Release = None
+
+-- a message would be answered as full: the member is up, and has no room among its undelivered messages
+abbrev pub would_fill : Group → ℕ → Part → Bool
+would_fill g me part = not part.crashed && nat_le MAX_UNDELIVERED (length (undelivered g me part))

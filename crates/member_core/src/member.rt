@@ -70,7 +70,7 @@ impl<O: Ordering> Member<O> {
     ghost use Rattle.member_rules.specs.Stands.{Stands, part_of, Grows};
     ghost use Rattle.member_rules.specs.Steps.{SentFits, Enters, MayMake, entering, fresh_orders, releasing, suspicion};
     ghost use Rattle.member_core.specs.Member.{kept_by};
-    ghost use Rattle.member_core.specs.Input.{MAX_MADE, MayCall, MayTake, MayRelease, MayHave, input_of, answer_to, is_call, items_by};
+    ghost use Rattle.member_core.specs.Input.{MAX_MADE, MayCall, MayTake, MayRelease, MayHave, input_of, answer_to, is_call, items_by, would_fill};
     ghost use Rattle.member_core.specs.Foretold.{Keeps, Reaches, IsSound, MakesTurn, given_by};
     ghost use Rattle.member_core.specs.Prepared.{advanced, changed, committed, answer_of, sent_of, HasRoom, HasRoomFor, IsReady};
 
@@ -181,7 +181,7 @@ impl<O: Ordering> Member<O> {
         ensures answer { IfOk result (λ p. answer_of p ≡ Some (if nat_le MAX_UNDELIVERED (length (kept_by self.now).repl.undelivered) then Full else Accepted (kept_by self.now).repl.made)) }
         ensures turn { IfOk result (λ p. (part : Part) → Keeps O.Ordering (kept_by self.now) part → NextIsNew (group_of O.Ordering (kept_by self.now)) (kept_by self.now).me part → MakesTurn O.Ordering (kept_by self.now) p (called (group_of O.Ordering (kept_by self.now)) (kept_by self.now).me part (Send text.now) (given_by p))) }
     {
-        if self.would_fill() {
+        if self.is_full() {
             return Ok(refused(alloc, Answer::Full));
         }
         let mut repl = self.repl.copy(alloc)?;
@@ -430,86 +430,6 @@ impl<O: Ordering> Member<O> {
         append(&mut self.log, progress.entries);
     }
 
-    /// Makes a call, and answers it; what it sends is appended to `out`. After want of memory the member and `out` are as
-    /// they were.
-    pub fn call(&mut self, alloc: Global, call: &Call, out: &mut Sent) -> Result<Answer, NoMemory>
-        requires { MayCall O.Ordering (kept_by self.old) call.now }
-        ensures group { group_of O.Ordering (kept_by self.new) ≡ group_of O.Ordering (kept_by self.old) }
-        ensures me { (kept_by self.new).me ≡ (kept_by self.old).me }
-        ensures answer { IfOk result (λ a. (past : List (NetInput Outer Frame)) → Stands O.Ordering (kept_by self.old) past → a ≡ answer (group_of O.Ordering (kept_by self.old)) (kept_by self.old).me (part_of O.Ordering (kept_by self.old) past) call.now) }
-        ensures stands { OnOk result ((past : List (NetInput Outer Frame)) → Stands O.Ordering (kept_by self.old) past → Grows (group_of O.Ordering (kept_by self.old)) (kept_by self.old).me past (Called (Makes call.now)) → Stands O.Ordering (kept_by self.new) (Called (Makes call.now) ∷ past)) }
-        ensures sent { OnOk result ((past : List (NetInput Outer Frame)) → Stands O.Ordering (kept_by self.old) past → Grows (group_of O.Ordering (kept_by self.old)) (kept_by self.old).me past (Called (Makes call.now)) → out.new ≡ out.old ++ (turn_of (group_of O.Ordering (kept_by self.old)) (kept_by self.old).me (Called (Makes call.now) ∷ past)).frames) }
-        ensures kept { OnErr result (kept_by self.new ≡ kept_by self.old) }
-        ensures out { OnErr result (out.new ≡ out.old) }
-    {
-        let input = Input::Call(call.copy()?);
-        let prepared = self.prepare(alloc, &input)?;
-        let answer = self.settle(prepared, out)?;
-        Ok(answer.unwrap())
-    }
-
-    /// Takes a frame from a member; what it sends is appended to `out`. After want of memory the member and `out` are as
-    /// they were.
-    pub fn take(
-        &mut self,
-        alloc: Global,
-        from: MemberId,
-        frame: Frame,
-        out: &mut Sent,
-    ) -> Result<(), NoMemory>
-        requires { MayTake (kept_by self.old) from frame }
-        ensures group { group_of O.Ordering (kept_by self.new) ≡ group_of O.Ordering (kept_by self.old) }
-        ensures me { (kept_by self.new).me ≡ (kept_by self.old).me }
-        ensures stands { OnOk result ((past : List (NetInput Outer Frame)) → Stands O.Ordering (kept_by self.old) past → Grows (group_of O.Ordering (kept_by self.old)) (kept_by self.old).me past (Took from frame) → Stands O.Ordering (kept_by self.new) (Took from frame ∷ past)) }
-        ensures sent { OnOk result ((past : List (NetInput Outer Frame)) → Stands O.Ordering (kept_by self.old) past → Grows (group_of O.Ordering (kept_by self.old)) (kept_by self.old).me past (Took from frame) → out.new ≡ out.old ++ (turn_of (group_of O.Ordering (kept_by self.old)) (kept_by self.old).me (Took from frame ∷ past)).frames) }
-        ensures kept { OnErr result (kept_by self.new ≡ kept_by self.old) }
-        ensures out { OnErr result (out.new ≡ out.old) }
-    {
-        let input = Input::Receive { from, frame };
-        let prepared = self.prepare(alloc, &input)?;
-        self.settle(prepared, out)?;
-        Ok(())
-    }
-
-    /// Processes the first held frame whose version is reached: false exactly where there is none, and then nothing
-    /// changes. What it sends is appended to `out`. After want of memory the member and `out` are as they were.
-    pub fn release(&mut self, alloc: Global, out: &mut Sent) -> Result<bool, NoMemory>
-        requires { (kept_by self.old).crashed ≡ false }
-        ensures group { group_of O.Ordering (kept_by self.new) ≡ group_of O.Ordering (kept_by self.old) }
-        ensures me { (kept_by self.new).me ≡ (kept_by self.old).me }
-        ensures ready { IfOk result (λ b. b ≡ is_some (first_ready (kept_by self.old).repl.version (kept_by self.old).held)) }
-        ensures same { IfOk result (λ b. b ≡ false → kept_by self.new ≡ kept_by self.old) }
-        ensures none { IfOk result (λ b. b ≡ false → out.new ≡ out.old) }
-        ensures stands { OnOk result ((past : List (NetInput Outer Frame)) → Stands O.Ordering (kept_by self.old) past → Grows (group_of O.Ordering (kept_by self.old)) (kept_by self.old).me past (Called Releases) → Stands O.Ordering (kept_by self.new) (Called Releases ∷ past)) }
-        ensures sent { OnOk result ((past : List (NetInput Outer Frame)) → Stands O.Ordering (kept_by self.old) past → Grows (group_of O.Ordering (kept_by self.old)) (kept_by self.old).me past (Called Releases) → out.new ≡ out.old ++ (turn_of (group_of O.Ordering (kept_by self.old)) (kept_by self.old).me (Called Releases ∷ past)).frames) }
-        ensures kept { OnErr result (kept_by self.new ≡ kept_by self.old) }
-        ensures out { OnErr result (out.new ≡ out.old) }
-    {
-        if !self.ready() {
-            return Ok(false);
-        }
-        let input = Input::Release;
-        let prepared = self.prepare(alloc, &input)?;
-        self.settle(prepared, out)?;
-        Ok(true)
-    }
-
-    /// Commits what was prepared, once there is room for what it sends.
-    fn settle(&mut self, prepared: Prepared<O>, out: &mut Sent) -> Result<Option<Answer>, NoMemory>
-        requires { IsReady O.Ordering self.old prepared }
-        ensures answer { IfOk result (λ a. a ≡ answer_of prepared) }
-        ensures group { group_of O.Ordering (kept_by self.new) ≡ group_of O.Ordering (kept_by self.old) }
-        ensures me { (kept_by self.new).me ≡ (kept_by self.old).me }
-        ensures made { OnOk result (kept_by self.new ≡ committed (kept_by self.old) prepared) }
-        ensures sent { OnOk result (out.new ≡ out.old ++ sent_of prepared) }
-        ensures kept { OnErr result (kept_by self.new ≡ kept_by self.old) }
-        ensures out { OnErr result (out.new ≡ out.old) }
-    {
-        out.append(prepared.sent)?;
-        self.make(prepared.change);
-        Ok(prepared.answer)
-    }
-
     /// What it delivered.
     pub fn log(&self) -> &Log
         ensures value { result.now.entries ≡ (kept_by self.now).entries }
@@ -558,10 +478,17 @@ impl<O: Ordering> Member<O> {
         self.crashed
     }
 
-    /// Whether a message would be refused as full now.
+    /// Whether a message would be refused as full now. At a crashed member it would be refused as crashed.
     pub fn would_fill(&self) -> bool
-        ensures value { result ≡ nat_le MAX_UNDELIVERED (length (kept_by self.now).repl.undelivered) }
-        ensures part { (past : List (NetInput Outer Frame)) → Stands O.Ordering (kept_by self.now) past → result ≡ nat_le MAX_UNDELIVERED (length (undelivered (group_of O.Ordering (kept_by self.now)) (kept_by self.now).me (part_of O.Ordering (kept_by self.now) past))) }
+        ensures value { result ≡ (not (kept_by self.now).crashed && nat_le MAX_UNDELIVERED (length (kept_by self.now).repl.undelivered)) }
+        ensures part { (past : List (NetInput Outer Frame)) → Stands O.Ordering (kept_by self.now) past → result ≡ would_fill (group_of O.Ordering (kept_by self.now)) (kept_by self.now).me (part_of O.Ordering (kept_by self.now) past) }
+    {
+        !self.crashed && self.is_full()
+    }
+
+    /// Whether no message more finds room among the undelivered.
+    fn is_full(&self) -> bool
+        ensures { result ≡ nat_le MAX_UNDELIVERED (length (kept_by self.now).repl.undelivered) }
     {
         self.repl.undelivered() >= MAX_UNDELIVERED
     }

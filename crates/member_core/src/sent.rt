@@ -1,11 +1,10 @@
-//! The member's outgoing frames: a queue that is appended to whole, or not at all where memory is wanted.
-ghost use Rattle.std.specs.Prelude.{◌≡◌, ◌≤◌, ◌-◌, [], ◌∷◌, ◌++◌, length, OnOk, OnErr, IfNone, option_to_list};
-ghost use Rattle.std.specs.VecDeque.{deque_len, deque_capacity};
+//! The outgoing frames of a member, in order.
+ghost use Rattle.std.specs.Prelude.{◌≡◌, [], ◌++◌, IfNone, option_to_list};
 
 use std::alloc::Global;
 use std::collections::VecDeque;
 use std::marker::Model;
-use upd_base::{Frame, MemberId, NoMemory};
+use upd_base::{Frame, MemberId};
 
 /// Frames to be sent, each with its receiver, in order.
 #[derive(Drop)]
@@ -47,25 +46,5 @@ impl Sent {
         ensures none { IfNone result (self.old ≡ []) }
     {
         self.frames.pop_front()
-    }
-
-    /// Appends these. After want of memory nothing has changed.
-    pub(crate) fn append(&mut self, frames: Vec<(MemberId, Frame)>) -> Result<(), NoMemory>
-        ensures ok { OnOk result (self.new ≡ self.old ++ frames.items) }
-        ensures err { OnErr result (self.new ≡ self.old) }
-    {
-        self.frames.reserve(frames.len())?;
-        push_all(&mut self.frames, frames);
-        Ok(())
-    }
-}
-
-/// Appends into room that was made before.
-fn push_all(queue: &mut VecDeque<(MemberId, Frame)>, frames: Vec<(MemberId, Frame)>)
-    requires { length frames.items ≤ deque_capacity queue.old - deque_len queue.old }
-    ensures { queue.new.items ≡ queue.old.items ++ frames.items }
-{
-    for frame in frames {
-        queue.push_back_reserved(frame);
     }
 }

@@ -22,6 +22,7 @@ use Rattle.group_run.specs.Turn.{turn_of}
 use Rattle.group_run.specs.Run.{Events, IsGroupRun, IsRelease, group, part, moves_in, next_frame, crashed_in, calls_made}
 use Rattle.member_rules.specs.Kept.{Kept, rules_of, group_of}
 use Rattle.member_rules.specs.Stands.{part_of, Stands as MemberStands}
+use Rattle.member_core.specs.Input.{would_fill}
 use Rattle.group_world.specs.Seen.{Seen, IsWorldOf, frames_on, made_by}
 use Rattle.group_world.specs.Moves.{is_enabled, is_up}
 use Rattle.group_world.specs.declared.moves.Move.TheVariants as move
@@ -169,17 +170,13 @@ pub caller_fits : (plan : Planned) (past : Events) (thread : ℕ) (step : Planne
 caller_fits plan past thread step e q = planned_member plan (plan_facts plan e).open_plan thread (calls_made thread past) step q
 
 -- a message is answered as full where the member is up and has no room
-pub full_of : (g : Group) (me : ℕ) (p : Part) (call : Call) (text : List ℕ) (full : Bool) → call ≡ Send text → p.crashed ≡ false → full ≡ nat_le MAX_UNDELIVERED (length (undelivered g me p)) →
-    full ≡ would_be_full (Some (answer g me p call))
-full_of g me p call text full e d q = q ∙ go p.crashed (nat_le MAX_UNDELIVERED (length (undelivered g me p))) d ∙ ap (λ x. would_be_full (Some (answer g me p x))) (sym e)
+pub full_of : (g : Group) (me : ℕ) (p : Part) (call : Call) (text : List ℕ) (full : Bool) → call ≡ Send text → full ≡ would_fill g me p → full ≡ would_be_full (Some (answer g me p call))
+full_of g me p call text full e q = q ∙ go p.crashed (nat_le MAX_UNDELIVERED (length (undelivered g me p))) ∙ ap (λ x. would_be_full (Some (answer g me p x))) (sym e)
   where
-    go : (a b : Bool) → a ≡ false → b ≡ would_be_full (Some (cond a Crashed (cond b Full (Accepted (length p.accepted)))))
-    go true b h = absurd (cc)
-    go false true h = refl
-    go false false h = refl
-
-pub down_of : (g : Group) (me : ℕ) (p : Part) (call : Call) → p.crashed ≡ true → false ≡ would_be_full (Some (answer g me p call))
-down_of g me p call e = ap (λ b. would_be_full (Some (if b then Crashed else answer_up g me p call))) (sym e)
+    go : (a b : Bool) → (not a && b) ≡ would_be_full (Some (cond a Crashed (cond b Full (Accepted (length p.accepted)))))
+    go true b = refl
+    go false true = refl
+    go false false = refl
 
 -- At rest ----------------------------------------------------------------------------------------------------
 

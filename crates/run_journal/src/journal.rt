@@ -337,7 +337,7 @@ impl<O: Ordering> Journal<O> {
     {
         let member = self.world.member(step.at);
         match &step.call {
-            Call::Send(_) => !member.crashed() && member.would_fill(),
+            Call::Send(_) => member.would_fill(),
             Call::Change(_) | Call::Suspect(_) | Call::Trust(_) | Call::Crash => false,
         }
     }

@@ -16,7 +16,7 @@ returns-clause-turn g c =
     let m = member_of c.args.self.now in
     let copied = c.in_ok-repl.repl in
     let same = c.in_ok-repl.ensures in
-    let room : length copied.undelivered < MAX_UNDELIVERED = let l = leb-false MAX_UNDELIVERED (length k.repl.undelivered) (sym c.would_fill.ensures.value ∙ c.if-would_fill.false) in let e = ap (λ (s : State). length s.undelivered) same in omega arith in
+    let room : length copied.undelivered < MAX_UNDELIVERED = let l = leb-false MAX_UNDELIVERED (length k.repl.undelivered) (sym c.is_full.ensures ∙ c.if-is_full.false) in let e = ap (λ (s : State). length s.undelivered) same in omega arith in
     let after = c.in_ok-item.ensures.issued room ∙ ap (λ (s : State). issued s c.args.text.now) same in
     let made : c.in-Some.item ≡ Msg copied.me copied.made c.args.text.now = subst (λ o. IfSome o (λ item. item ≡ Msg copied.me copied.made c.args.text.now)) c.in-Some.is c.in_ok-item.ensures.some in
     let item = made ∙ ap (λ (s : State). Msg s.me s.made c.args.text.now) same in
