@@ -92,6 +92,12 @@ fn examples(rt: HostRuntime) -> Result<(), Fail> {
         0u8, 2, 8, 0, 0, 0, 0, 0, 0, 0, 1, 0, 0, 0, 0, 0, 0, 0, 1, 1,
     ]?;
     assert_eq!(rt; encode(alloc, &reply)?, bytes);
+    Ok(())
+}
+
+#[test]
+fn past_there_and_back(rt: HostRuntime) -> Result<(), Fail> {
+    let alloc = rt.alloc();
     let past = Frame {
         version: 1,
         body: Body::Past,
