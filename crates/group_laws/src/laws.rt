@@ -5,7 +5,7 @@ ghost use Rattle.member_rules.specs.Kept.{rules_of};
 ghost use Rattle.group_run.specs.Ordered.{IsOrdered};
 ghost use Rattle.group_run.specs.Settled.{IsFulfilled, IsQuiet, IsSettled, IsTrusting};
 ghost use Rattle.run_journal.specs.Journal.{plan_of, past_of};
-ghost use Rattle.group_laws.specs.Versions.{IsVersioned};
+ghost use Rattle.group_laws.specs.Versions.{CountsSwitches, HasSwitchedKinds, HasWholeSegments};
 
 use group_bound::trusting_runs_are_bounded;
 use group_fulfilment::settled_quiet_runs_are_fulfilled;
@@ -41,10 +41,12 @@ pub fn journal_is_bounded<O: Ordering>(journal: &Journal<O>)
     trusting_runs_are_bounded();
 }
 
-/// The version of a member is the number of switches in its log, each further version has the kind of the switch that
-/// ended the one below, and what counts of a version is what its module delivered up to and with the first switch.
-pub fn journal_is_versioned<O: Ordering>(journal: &Journal<O>)
-    ensures { IsVersioned (rules_of O.Ordering) (plan_of journal.now) (past_of journal.now) }
+/// The version of each member is the number of switches in its log; each version above 0 has the kind of the switch that ended
+/// the one below; and what counts of a version is what its module delivered up to and with the first switch.
+pub fn journal_counts_switches<O: Ordering>(journal: &Journal<O>)
+    ensures counts { CountsSwitches (rules_of O.Ordering) (plan_of journal.now) (past_of journal.now) }
+    ensures kinds { HasSwitchedKinds (rules_of O.Ordering) (plan_of journal.now) (past_of journal.now) }
+    ensures segments { HasWholeSegments (rules_of O.Ordering) (plan_of journal.now) (past_of journal.now) }
 {
     journal.plan();
     versions_count_switches();

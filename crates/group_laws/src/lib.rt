@@ -6,6 +6,8 @@ mod laws;
 mod longest;
 mod loud;
 
-pub use laws::{journal_is_bounded, journal_is_fulfilled, journal_is_ordered, journal_is_versioned};
+pub use laws::{
+    journal_is_bounded, journal_is_fulfilled, journal_is_ordered, journal_counts_switches,
+};
 pub use longest::canon;
 pub use loud::quiet;

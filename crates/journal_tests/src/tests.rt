@@ -3,7 +3,8 @@ ghost use Rattle.run_journal.specs.Journal.{plan_of};
 
 use frame_feed::Feed;
 use group_laws::{
-    canon, journal_is_bounded, journal_is_fulfilled, journal_is_ordered, journal_is_versioned, quiet,
+    canon, journal_is_bounded, journal_is_fulfilled, journal_is_ordered, journal_counts_switches,
+    quiet,
 };
 use lamport_order::LamportOrder;
 use line_fakes::SureLines;
@@ -104,7 +105,7 @@ fn run(
 ) -> Result<(RehearsalEnd, u64, bool, Vec<(u16, u8, u32, bool)>), Fail> {
     let Rehearsed { journal, end } = round_robin(alloc, begun::<Module>(alloc, text)?);
     journal_is_ordered(&journal);
-    journal_is_versioned(&journal);
+    journal_counts_switches(&journal);
     journal_is_fulfilled(&journal);
     journal_is_bounded(&journal);
     let log = longest(alloc, &journal)?;

@@ -1,13 +1,18 @@
-//! Events that are made once more where memory is refused: the refusal is to have left the member as it was.
-ghost use Rattle.std.specs.Prelude.{◌≡◌, false};
+//! Inputs that are prepared once more where memory is refused: the refusal is to have left the member as it was.
+ghost use Rattle.std.specs.Prelude.{◌≡◌, IfOk};
 ghost use Rattle.member_core.specs.Member.{kept_by};
-ghost use Rattle.member_core.specs.Input.{MayCall, MayTake};
+ghost use Rattle.member_core.specs.Input.{MayHave};
+ghost use Rattle.member_core.specs.Prepared.{IsReady};
 
-use member_core::{Member, Sent};
+use member_core::{Input, Member, Prepared, Sent};
 use order_trait::Ordering;
 use std::alloc::Global;
+use std::collections::VecDeque;
 use std::test::*;
-use upd_base::{Answer, Call, Frame, Kind, MemberId};
+use upd_base::{Answer, Frame, Kind, MemberId, NoMemory};
+
+/// Frames that a member sent and that nobody took yet, each with its receiver.
+pub type Frames = VecDeque<(MemberId, Frame)>;
 
 /// What a member says of itself.
 #[derive(Clone, Copy, Debug, PartialEq, Eq)]
@@ -36,67 +41,61 @@ pub fn says<O: Ordering>(one: &Member<O>) -> Readings {
 }
 
 /// The member says what it said before.
-pub fn unchanged<O: Ordering>(one: &Member<O>, before: &Readings) -> Result<(), Fail> {
+fn unchanged<O: Ordering>(one: &Member<O>, before: &Readings) -> Result<(), Fail> {
     if says(one) != *before {
-        return Err("a refusal that changed the member")?;
+        return Err("an input that changed the member before its commit")?;
     }
     Ok(())
 }
 
-/// Makes a call.
-pub fn call_again<O: Ordering>(
+/// Prepares an input. The member is as it was, also where memory is refused.
+fn prepare_again<O: Ordering>(
     alloc: Global,
     one: &mut Member<O>,
-    call: &Call,
-    out: &mut Sent,
-) -> Result<Answer, Fail>
-    requires { MayCall O.Ordering (kept_by one.old) call.now }
-    ensures { (kept_by one.new).members ≡ (kept_by one.old).members }
+    input: &Input,
+) -> Result<Prepared<O>, Fail>
+    requires { MayHave O.Ordering (kept_by one.old) input.now }
+    ensures kept { kept_by one.new ≡ kept_by one.old }
+    ensures ready { IfOk result (λ p. IsReady O.Ordering one.new p) }
 {
     let before = says(one);
-    if let Ok(answer) = one.call(alloc, call, out) {
-        return Ok(answer);
-    }
+    let first = one.prepare(alloc, input);
     unchanged(one, &before)?;
-    Ok(one.call(alloc, call, out).ok().ok_or("a second refusal")?)
+    if let Ok(prepared) = first {
+        return Ok(prepared);
+    }
+    match one.prepare(alloc, input) {
+        Ok(prepared) => Ok(prepared),
+        Err(NoMemory) => Err("a second refusal")?,
+    }
 }
 
-/// Takes a frame.
-pub fn take_again<O: Ordering>(
-    alloc: Global,
-    one: &mut Member<O>,
-    from: MemberId,
-    frame: Frame,
-    out: &mut Sent,
-) -> Result<(), Fail>
-    requires { MayTake (kept_by one.old) from frame }
+/// Commits what was prepared: what is answered, and what is sent.
+fn commit<O: Ordering>(one: &mut Member<O>, prepared: Prepared<O>) -> (Option<Answer>, Sent)
+    requires { IsReady O.Ordering one.old prepared }
     ensures { (kept_by one.new).members ≡ (kept_by one.old).members }
 {
-    let same = frame.copy(alloc)?;
-    let before = says(one);
-    if one.take(alloc, from, frame, out).is_ok() {
-        return Ok(());
-    }
-    unchanged(one, &before)?;
-    one.take(alloc, from, same, out)
-        .ok()
-        .ok_or("a second refusal")?;
-    Ok(())
+    one.commit(prepared)
 }
 
-/// Releases a held frame: whether there was one whose version is reached.
-pub fn release_again<O: Ordering>(
+/// Prepares an input and commits it: what is answered, where it is a call. What is sent comes behind the frames.
+pub fn make_again<O: Ordering>(
     alloc: Global,
     one: &mut Member<O>,
-    out: &mut Sent,
-) -> Result<bool, Fail>
-    requires { (kept_by one.old).crashed ≡ false }
+    input: &Input,
+    frames: &mut Frames,
+) -> Result<Option<Answer>, Fail>
+    requires { MayHave O.Ordering (kept_by one.old) input.now }
     ensures { (kept_by one.new).members ≡ (kept_by one.old).members }
 {
-    let before = says(one);
-    if let Ok(released) = one.release(alloc, out) {
-        return Ok(released);
+    let prepared = prepare_again(alloc, one, input)?;
+    let count = prepared.sent().len();
+    frames.reserve(count)?;
+    let (answer, mut sent) = commit(one, prepared);
+    for _ in 0..count {
+        if let Some(frame) = sent.drain_first() {
+            frames.push_back(frame)?;
+        }
     }
-    unchanged(one, &before)?;
-    Ok(one.release(alloc, out).ok().ok_or("a second refusal")?)
+    Ok(answer)
 }

@@ -2,9 +2,9 @@
 ghost use Rattle.std.specs.Prelude.{◌≡◌};
 ghost use Rattle.member_core.specs.Member.{kept_by};
 
-use crate::again::{Readings, release_again, says};
+use crate::again::{Frames, Readings, make_again, says};
 use crate::tests::{One, change, crash, member, send, started, suspect, take, trust};
-use member_core::Sent;
+use member_core::Input;
 use std::alloc::Global;
 use std::test::*;
 use upd_base::{Answer, Body, Entry, Frame, Item, Kind, Text};
@@ -37,9 +37,9 @@ fn message(alloc: Global, origin: u8, number: u32) -> Result<Item, Fail> {
 }
 
 /// The next frame that member 0 sent to itself.
-fn own_frame(out: &mut Sent) -> Result<Frame, Fail> {
+fn own_frame(out: &mut Frames) -> Result<Frame, Fail> {
     for _ in 0..8 {
-        let Some((to, frame)) = out.drain_first() else {
+        let Some((to, frame)) = out.pop_front() else {
             return Err("a frame")?;
         };
         if to.get() == 0 {
@@ -50,7 +50,7 @@ fn own_frame(out: &mut Sent) -> Result<Frame, Fail> {
 }
 
 /// The sender of the frame that an event brings, and the frame.
-fn brought(alloc: Global, event: Event, out: &mut Sent) -> Result<(u8, Frame), Fail> {
+fn brought(alloc: Global, event: Event, out: &mut Frames) -> Result<(u8, Frame), Fail> {
     match event {
         Event::Ask(number) => {
             let item = message(alloc, 1, number)?;
@@ -66,15 +66,16 @@ fn brought(alloc: Global, event: Event, out: &mut Sent) -> Result<(u8, Frame), F
     }
 }
 
-fn release(alloc: Global, one: &mut One, out: &mut Sent) -> Result<(), Fail>
+fn release(alloc: Global, one: &mut One, out: &mut Frames) -> Result<(), Fail>
     ensures { (kept_by one.new).members ≡ (kept_by one.old).members }
 {
     if one.crashed() {
         return Err("up")?;
     }
-    if !release_again(alloc, one, out)? {
+    if !one.ready() {
         return Err("a held frame whose version is reached")?;
     }
+    make_again(alloc, one, &Input::Release, out)?;
     Ok(())
 }
 
@@ -84,7 +85,7 @@ fn make(
     one: &mut One,
     n: u8,
     event: Event,
-    out: &mut Sent,
+    out: &mut Frames,
 ) -> Result<Option<Answer>, Fail>
     requires { (kept_by one.old).members ≡ n }
     ensures { (kept_by one.new).members ≡ n }
@@ -116,7 +117,7 @@ fn make_all(
     one: &mut One,
     n: u8,
     table: &[(Event, Option<Answer>)],
-    out: &mut Sent,
+    out: &mut Frames,
 ) -> Result<(), Fail>
     requires { (kept_by one.old).members ≡ n }
     ensures { (kept_by one.new).members ≡ n }
@@ -168,7 +169,7 @@ fn settled(sequencer: u8, entries: usize, accepted: u32) -> Result<Readings, Fai
 #[test]
 fn events_of_the_sequencer(rt: HostRuntime) -> Result<(), Fail> {
     let alloc = rt.alloc();
-    let mut out = Sent::new(alloc);
+    let mut out = Frames::new(alloc);
     let mut one = started(alloc, 3)?;
     let before = [
         (Event::Send, Some(Answer::Accepted(0))),

@@ -2,13 +2,13 @@ ghost use Rattle.std.specs.Prelude.{true, ◌≡◌, ◌<◌, ◌≤◌, IfOk};
 ghost use Rattle.upd_base.specs.Kind.{KindFits};
 ghost use Rattle.member_core.specs.Member.{kept_by};
 
-use crate::again::{call_again, take_again};
-use member_core::{Input, Member, Sent};
+use crate::again::{Frames, make_again};
+use member_core::{Input, Member};
 use order_trait::Ordering;
 use sequencer_order::SequencerOrder;
 use std::alloc::Global;
 use std::test::*;
-use upd_base::{Answer, Body, Call, Frame, Kind, MemberId, Text};
+use upd_base::{Answer, Body, Call, Frame, Item, Kind, MemberId, Text};
 
 pub(crate) type One = Member<SequencerOrder>;
 
@@ -35,7 +35,12 @@ pub(crate) fn started(alloc: Global, n: u8) -> Result<One, Fail>
     Ok(Member::start(alloc, n, zero, first)?)
 }
 
-pub(crate) fn send(alloc: Global, one: &mut One, out: &mut Sent) -> Result<Answer, Fail>
+/// What a call was answered.
+fn answered(answer: Option<Answer>) -> Result<Answer, Fail> {
+    Ok(answer.ok_or("an answer")?)
+}
+
+pub(crate) fn send(alloc: Global, one: &mut One, out: &mut Frames) -> Result<Answer, Fail>
     ensures { (kept_by one.new).members ≡ (kept_by one.old).members }
 {
     let Some(text) = Text::new(alloc, b"a")? else {
@@ -44,14 +49,14 @@ pub(crate) fn send(alloc: Global, one: &mut One, out: &mut Sent) -> Result<Answe
     if one.accepted() >= 1_000_000 {
         return Err("too many")?;
     }
-    call_again(alloc, one, &Call::Send(text), out)
+    answered(make_again(alloc, one, &Input::Call(Call::Send(text)), out)?)
 }
 
 pub(crate) fn change(
     alloc: Global,
     one: &mut One,
     kind: Kind,
-    out: &mut Sent,
+    out: &mut Frames,
 ) -> Result<Answer, Fail>
     ensures { (kept_by one.new).members ≡ (kept_by one.old).members }
 {
@@ -61,34 +66,39 @@ pub(crate) fn change(
     if one.accepted() >= 1_000_000 {
         return Err("too many")?;
     }
-    Ok(call_again(alloc, one, &Call::Change(kind), out)?)
+    answered(make_again(alloc, one, &Input::Call(Call::Change(kind)), out)?)
 }
 
-pub(crate) fn suspect(alloc: Global, one: &mut One, who: u8, out: &mut Sent) -> Result<Answer, Fail>
+pub(crate) fn suspect(
+    alloc: Global,
+    one: &mut One,
+    who: u8,
+    out: &mut Frames,
+) -> Result<Answer, Fail>
     ensures { (kept_by one.new).members ≡ (kept_by one.old).members }
 {
     if one.accepted() >= 1_000_000 {
         return Err("too many")?;
     }
-    call_again(alloc, one, &Call::Suspect(who), out)
+    answered(make_again(alloc, one, &Input::Call(Call::Suspect(who)), out)?)
 }
 
-pub(crate) fn crash(alloc: Global, one: &mut One, out: &mut Sent) -> Result<Answer, Fail>
+pub(crate) fn trust(alloc: Global, one: &mut One, who: u8, out: &mut Frames) -> Result<Answer, Fail>
     ensures { (kept_by one.new).members ≡ (kept_by one.old).members }
 {
     if one.accepted() >= 1_000_000 {
         return Err("too many")?;
     }
-    call_again(alloc, one, &Call::Crash, out)
+    answered(make_again(alloc, one, &Input::Call(Call::Trust(who)), out)?)
 }
 
-pub(crate) fn trust(alloc: Global, one: &mut One, who: u8, out: &mut Sent) -> Result<Answer, Fail>
+pub(crate) fn crash(alloc: Global, one: &mut One, out: &mut Frames) -> Result<Answer, Fail>
     ensures { (kept_by one.new).members ≡ (kept_by one.old).members }
 {
     if one.accepted() >= 1_000_000 {
         return Err("too many")?;
     }
-    call_again(alloc, one, &Call::Trust(who), out)
+    answered(make_again(alloc, one, &Input::Call(Call::Crash), out)?)
 }
 
 /// The member of a group of n takes a frame of another or of itself.
@@ -98,7 +108,7 @@ pub(crate) fn take(
     n: u8,
     from: u8,
     frame: Frame,
-    out: &mut Sent,
+    out: &mut Frames,
 ) -> Result<(), Fail>
     requires { (kept_by one.old).members ≡ n }
     ensures { (kept_by one.new).members ≡ n }
@@ -115,11 +125,14 @@ pub(crate) fn take(
     if !frame.body.counts_from_one() {
         return Err("a body that counts")?;
     }
-    take_again(alloc, one, member(from)?, frame, out)
+    let from = member(from)?;
+    let input = Input::Receive { from, frame };
+    make_again(alloc, one, &input, out)?;
+    Ok(())
 }
 
 /// The member of a group of one takes a frame that it sent to itself.
-fn receive(alloc: Global, one: &mut One, frame: Frame, out: &mut Sent) -> Result<(), Fail>
+fn receive(alloc: Global, one: &mut One, frame: Frame, out: &mut Frames) -> Result<(), Fail>
     requires { (kept_by one.old).members ≡ 1 }
     ensures { (kept_by one.new).members ≡ 1 }
 {
@@ -127,27 +140,27 @@ fn receive(alloc: Global, one: &mut One, frame: Frame, out: &mut Sent) -> Result
 }
 
 /// The next frame of the member of a group of one goes back to it.
-fn pass(alloc: Global, one: &mut One, out: &mut Sent) -> Result<(), Fail>
+fn pass(alloc: Global, one: &mut One, out: &mut Frames) -> Result<(), Fail>
     requires { (kept_by one.old).members ≡ 1 }
     ensures { (kept_by one.new).members ≡ 1 }
 {
-    let Some((_, frame)) = out.drain_first() else {
+    let Some((_, frame)) = out.pop_front() else {
         return Err("a frame")?;
     };
     receive(alloc, one, frame, out)
 }
 
-/// A change to the sequencer 0 in a group of one, with its two receipts.
+/// A change to the sequencer 0 in a group of one, with its three receipts: the request, the order, and that the version is past.
 fn replace(alloc: Global, one: &mut One) -> Result<Answer, Fail>
     requires { (kept_by one.old).members ≡ 1 }
     ensures { (kept_by one.new).members ≡ 1 }
 {
-    let mut out = Sent::new(alloc);
+    let mut out = Frames::new(alloc);
     let answer = change(alloc, one, Kind::Sequencer(member(0)?), &mut out)?;
     pass(alloc, one, &mut out)?;
     pass(alloc, one, &mut out)?;
-    if out.drain_first().is_some() {
-        return Err("two frames")?;
+    if out.pop_front().is_some() {
+        return Err("three frames")?;
     }
     Ok(answer)
 }
@@ -165,7 +178,7 @@ fn replace_again(alloc: Global, one: &mut One, times: u16) -> Result<(), Fail>
 #[test]
 fn the_last_version(rt: HostRuntime) -> Result<(), Fail> {
     let alloc = rt.alloc();
-    let mut out = Sent::new(alloc);
+    let mut out = Frames::new(alloc);
     let mut one = started(alloc, 1)?;
     assert_eq!(rt; replace(alloc, &mut one)?, Answer::Accepted(0));
     assert_eq!(rt; (one.version(), one.log().len()), (1, 1));
@@ -177,7 +190,7 @@ fn the_last_version(rt: HostRuntime) -> Result<(), Fail> {
         change(alloc, &mut one, zero, &mut out)?,
         Answer::VersionLimit
     );
-    assert!(rt; out.drain_first().is_none());
+    assert!(rt; out.pop_front().is_none());
     assert_eq!(rt; send(alloc, &mut one, &mut out)?, Answer::Accepted(1000));
     assert_eq!(rt; (one.undelivered(), one.would_fill()), (1, false));
     Ok(())
@@ -186,7 +199,7 @@ fn the_last_version(rt: HostRuntime) -> Result<(), Fail> {
 #[test]
 fn refusals(rt: HostRuntime) -> Result<(), Fail> {
     let alloc = rt.alloc();
-    let mut out = Sent::new(alloc);
+    let mut out = Frames::new(alloc);
     let mut one = started(alloc, 3)?;
     assert_eq!(rt; suspect(alloc, &mut one, 5, &mut out)?, Answer::BadMember);
     assert_eq!(rt; suspect(alloc, &mut one, 0, &mut out)?, Answer::BadMember);
@@ -200,7 +213,7 @@ fn refusals(rt: HostRuntime) -> Result<(), Fail> {
     assert_eq!(rt; change(alloc, &mut one, four, &mut out)?, Answer::Crashed);
     assert_eq!(rt; send(alloc, &mut one, &mut out)?, Answer::Crashed);
     assert!(rt; one.crashed());
-    assert!(rt; out.drain_first().is_none());
+    assert!(rt; out.pop_front().is_none());
     Ok(())
 }
 
@@ -223,5 +236,37 @@ fn prepared_and_committed(rt: HostRuntime) -> Result<(), Fail> {
     assert_eq!(rt; (to, frame.version), (member(0)?, 0));
     assert!(rt; matches!(&frame.body, Body::Ask { .. }));
     assert!(rt; sent.drain_first().is_none());
+    Ok(())
+}
+
+/// The request of this message to the sequencer of version 0.
+fn request(alloc: Global) -> Result<Frame, Fail> {
+    let payload = Text::new(alloc, b"a")?.ok_or("a payload")?;
+    let item = Item::Msg {
+        origin: member(0)?,
+        number: 0,
+        payload,
+    };
+    let body = Body::Ask { item };
+    Ok(Frame { version: 0, body })
+}
+
+#[test]
+fn a_request_is_prepared(rt: HostRuntime) -> Result<(), Fail> {
+    let alloc = rt.alloc();
+    let mut one = started(alloc, 1)?;
+    let frame = request(alloc)?;
+    if one.crashed() || !frame.fits(1) || !frame.body.counts_from_one() {
+        return Err("a frame that may be received")?;
+    }
+    let from = member(0)?;
+    let input = Input::Receive { from, frame };
+    let prepared = one.prepare(alloc, &input)?;
+    assert!(rt; prepared.answer().is_none());
+    assert_eq!(rt; prepared.sent().len(), 1);
+    let (to, frame) = &prepared.sent()[0];
+    assert_eq!(rt; (to.get(), frame.version), (0, 0));
+    assert!(rt; matches!(&frame.body, Body::Ord { place: 1, .. }));
+    assert_eq!(rt; one.log().len(), 0);
     Ok(())
 }

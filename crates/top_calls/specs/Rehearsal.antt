@@ -4,7 +4,7 @@ use Rattle.upd_base.specs.Plan.{Planned, bound}
 use Rattle.group_run.specs.Run.{Events, IsGroupRun}
 use Rattle.group_run.specs.Ordered.{IsOrdered}
 use Rattle.group_run.specs.Settled.{IsFulfilled, IsQuiet, IsSettled, IsTrusting}
-use Rattle.group_laws.specs.Versions.{IsVersioned}
+use Rattle.group_laws.specs.Versions.{CountsSwitches, HasSwitchedKinds, HasWholeSegments}
 use Rattle.rehearsal.specs.Ends.{EndsAt, IsOnTheWay}
 use Rattle.rehearsal.specs.FullAtRest.{FullAtRest}
 use Rattle.rehearsal.specs.declared.rehearsed.RehearsalEnd.TheVariants as ends
@@ -22,8 +22,10 @@ pub record KeepsLaws (plan : Planned) (past : Events) : Type 0 where
   pub run : IsGroupRun the_rules plan past
   -- the logs agree, nothing stands twice in one, and only what was accepted
   pub ordered : IsOrdered the_rules plan past
-  -- the version of a member is the number of switches in its log, which name the kinds and end the segments
-  pub versioned : IsVersioned the_rules plan past
+  -- versions count the switches of a log; each further one has the kind of the switch below; each segment ends at its first
+  pub counts : CountsSwitches the_rules plan past
+  pub kinds : HasSwitchedKinds the_rules plan past
+  pub segments : HasWholeSegments the_rules plan past
   -- settled without crash or suspicion, every accepted message stands in every log
   pub fulfilled : IsSettled the_rules plan past → IsQuiet plan past → IsFulfilled the_rules plan past
   -- without a suspicion that was taken, a run as long as the bound is settled

@@ -8,7 +8,7 @@ ghost use Rattle.top_calls.specs.Recorded.{scheduled};
 ghost use Rattle.top_calls.specs.Rehearsal.{KeepsLaws};
 
 use group_laws::{
-    journal_is_bounded, journal_is_fulfilled, journal_is_ordered, journal_is_versioned,
+    journal_is_bounded, journal_is_fulfilled, journal_is_ordered, journal_counts_switches,
 };
 use module_binding::Module;
 use planned_calls::{journal_delivers_sends, journal_is_calm, journal_makes_calls};
@@ -48,7 +48,7 @@ pub(crate) fn keeps_laws(journal: &Journal<Module>)
 {
     journal.plan();
     journal_is_ordered(journal);
-    journal_is_versioned(journal);
+    journal_counts_switches(journal);
     journal_is_fulfilled(journal);
     journal_is_bounded(journal);
     journal_makes_calls(journal);
