@@ -7,7 +7,7 @@ mod longest;
 mod loud;
 
 pub use laws::{
-    journal_is_bounded, journal_is_fulfilled, journal_is_ordered, journal_counts_switches,
+    journal_counts_switches, journal_is_bounded, journal_is_fulfilled, journal_is_ordered,
 };
 pub use longest::canon;
 pub use loud::quiet;

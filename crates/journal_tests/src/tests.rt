@@ -3,7 +3,7 @@ ghost use Rattle.run_journal.specs.Journal.{plan_of};
 
 use frame_feed::Feed;
 use group_laws::{
-    canon, journal_is_bounded, journal_is_fulfilled, journal_is_ordered, journal_counts_switches,
+    canon, journal_counts_switches, journal_is_bounded, journal_is_fulfilled, journal_is_ordered,
     quiet,
 };
 use lamport_order::LamportOrder;

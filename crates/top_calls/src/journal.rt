@@ -8,7 +8,7 @@ ghost use Rattle.top_calls.specs.Recorded.{scheduled};
 ghost use Rattle.top_calls.specs.Rehearsal.{KeepsLaws};
 
 use group_laws::{
-    journal_is_bounded, journal_is_fulfilled, journal_is_ordered, journal_counts_switches,
+    journal_counts_switches, journal_is_bounded, journal_is_fulfilled, journal_is_ordered,
 };
 use module_binding::Module;
 use planned_calls::{journal_delivers_sends, journal_is_calm, journal_makes_calls};
